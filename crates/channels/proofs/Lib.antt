@@ -1,0 +1,4 @@
+pub mod Frames
+pub mod Places
+pub mod Turns
+pub mod Uses
