@@ -14,6 +14,7 @@ pub impl Recorded for i16 as I16Recorded {
     ghost stands = { of-i16 };
 
     fn sample(self) -> f32 {
-        self as f32 / 32768.0
+        let steps = self as f32;
+        steps / 32768.0
     }
 }

@@ -18,8 +18,8 @@ impl<S: Source> Flattened<S> {
     pub fn into_inner(self) -> S
         ensures answer { λ r. ⌜ r ≡ self .input ⌝ }
     {
-        let Flattened { input } = self;
-        input
+        let Flattened { input: inner } = self;
+        inner
     }
 }
 

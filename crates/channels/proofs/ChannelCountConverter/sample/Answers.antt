@@ -4,4 +4,4 @@ use Rattle.source.proofs.Draws.{zero-bits}
 use Rattle.channels.proofs.ChannelCountConverter.sample.Needs as need
 
 pub returns-in-rest-2 : need.returns-in-rest-2
-returns-in-rest-2 g c = rw zero-bits (search needs)
+returns-in-rest-2 g c = search (needs, zero-bits)

@@ -10,4 +10,4 @@ unfolding ofInt ofBits
 divisor = refl
 
 pub returns : need.returns
-returns c = rw (toZ-ofZ (c .fits .self), divisor) (record { answer = refl })
+returns c = let exact = toZ-ofZ (c .fits .self) in record { answer = cc divisor }

@@ -1,0 +1,17 @@
+//! rodio's own files, unchanged, from the directory that the link `rodio` beside this file names, and what they lean on.
+//! `source.rs` stands in for the declaration of the `Source` trait.
+
+#[path = "rodio/buffer.rs"]
+pub mod buffer;
+#[path = "rodio/conversions/channels.rs"]
+mod channels;
+#[path = "rodio/common.rs"]
+pub mod common;
+pub mod source;
+
+pub mod conversions {
+    pub use crate::channels::ChannelCountConverter;
+}
+
+pub use common::{ChannelCount, Sample, SampleRate};
+pub use source::Source;
