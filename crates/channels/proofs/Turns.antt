@@ -45,7 +45,9 @@ turn-none c t p held l h =
 turn-taken : (c t p : ℕ) (held : Option Float) (y : Float) (ys : List Float) → 0 < c → p < t → p < c → Turn c t p held (y ∷ ys)
 turn-taken c t p held y ys hc l h = record {
   gives = s ∙ sym (ap first (taken c t p held y ys hc l h));
-  goes-on = λ _. ap (λ n. left-to-give c t (next-place t p) (held-past p held (y ∷ ys)) (input-at-next c t p n)) i ∙ ⊎-elim over within (cases-eq (p + 1) t) ∙ sym (ap rest (taken c t p held y ys hc l h));
+  goes-on = λ _. ap (λ n. left-to-give c t (next-place t p) (held-past p held (y ∷ ys)) (input-at-next c t p n)) i
+      ∙ ⊎-elim over within (cases-eq (p + 1) t)
+      ∙ sym (ap rest (taken c t p held y ys hc l h));
   ends = λ none. absurd (true≢false (sym (ap isSome s) ∙ none));
 }
   where

@@ -1,17 +1,14 @@
 // Making a converter, drawing from it, and taking it apart again.
-ghost use Prim.Native.Nat.{ℕ, _+_, _-_};
-ghost use mathlib.Core.Bool.{cond, true};
-ghost use mathlib.Core.List.{List};
+ghost use mathlib.Core.Bool.{true};
 ghost use mathlib.Core.Path.{_≡_};
 ghost use denote.Ref.{now};
-ghost use lib.Ieee.{Float};
 ghost use lib.ListN.{drop};
 ghost use Rattle.std.specs.Options.{isSome};
 ghost use Rattle.std.specs.declared.option.Option.the-variants.{None};
 ghost use Rattle.source.specs.Samples.{first, rest};
-ghost use Rattle.channels.specs.Channels.{channels-converted, channels-used};
-ghost use Rattle.channels.specs.Converters.{converted, Gave};
-ghost use Rattle.channels.specs.Steps.{sample-at, input-past, held-past, next-place, input-at-next};
+ghost use Rattle.channels.specs.Channels.{channels-converted};
+ghost use Rattle.channels.specs.Converters.{converted, Gave, GivesOn, LeavesInput};
+ghost use Rattle.channels.specs.Converters.{sample-here, input-after-sample, held-after-sample, place-after, input-after-place};
 use crate::ChannelCountConverter;
 use common::format::ChannelCount;
 use source::Samples;
@@ -43,9 +40,9 @@ impl<I: Samples> ChannelCountConverter<I> {
 
     // The sample at the place of the output frame that is next.
     fn sample(&mut self) -> Option<f32>
-        ensures answer { λ r. ⌜ r ≡ sample-at (now (self .entry) .from .count) (now (self .entry) .«next_output_sample_pos») (now (self .entry) .«sample_repeat») (I·Samples .samples (now (self .entry) .input)) ⌝ }
-        ensures input { λ _. ⌜ I·Samples .samples (now (self .exit) .input) ≡ input-past (now (self .entry) .from .count) (now (self .entry) .«next_output_sample_pos») (I·Samples .samples (now (self .entry) .input)) ⌝ }
-        ensures held { λ _. ⌜ now (self .exit) .«sample_repeat» ≡ held-past (now (self .entry) .«next_output_sample_pos») (now (self .entry) .«sample_repeat») (I·Samples .samples (now (self .entry) .input)) ⌝ }
+        ensures answer { λ r. ⌜ r ≡ sample-here (I·Samples .samples) (now (self .entry)) ⌝ }
+        ensures input { λ _. ⌜ I·Samples .samples (now (self .exit) .input) ≡ input-after-sample (I·Samples .samples) (now (self .entry)) ⌝ }
+        ensures held { λ _. ⌜ now (self .exit) .«sample_repeat» ≡ held-after-sample (I·Samples .samples) (now (self .entry)) ⌝ }
         ensures place { λ _. ⌜ now (self .exit) .«next_output_sample_pos» ≡ now (self .entry) .«next_output_sample_pos» ⌝ }
         ensures counts { λ _. ⌜ now (self .exit) .from ≡ now (self .entry) .from ⌝ ∗ ⌜ now (self .exit) .to ≡ now (self .entry) .to ⌝ }
         ensures same { λ _. ⌜ I·Samples .beyond (now (self .exit) .input) ≡ I·Samples .beyond (now (self .entry) .input) ⌝ }
@@ -67,8 +64,8 @@ impl<I: Samples> ChannelCountConverter<I> {
     // Moves on by one place; behind the last place of an output frame the rest of the input frame is dropped.
     fn advance(&mut self)
         requires held { ⌜ isSome (now self .«sample_repeat») ≡ true ⌝ }
-        ensures place { λ _. ⌜ now (self .exit) .«next_output_sample_pos» ≡ next-place (now (self .entry) .to .count) (now (self .entry) .«next_output_sample_pos») ⌝ }
-        ensures input { λ _. ⌜ I·Samples .samples (now (self .exit) .input) ≡ input-at-next (now (self .entry) .from .count) (now (self .entry) .to .count) (now (self .entry) .«next_output_sample_pos») (I·Samples .samples (now (self .entry) .input)) ⌝ }
+        ensures place { λ _. ⌜ now (self .exit) .«next_output_sample_pos» ≡ place-after (I·Samples .samples) (now (self .entry)) ⌝ }
+        ensures input { λ _. ⌜ I·Samples .samples (now (self .exit) .input) ≡ input-after-place (I·Samples .samples) (now (self .entry)) ⌝ }
         ensures held { λ _. ⌜ now (self .exit) .«sample_repeat» ≡ now (self .entry) .«sample_repeat» ⌝ }
         ensures counts { λ _. ⌜ now (self .exit) .from ≡ now (self .entry) .from ⌝ ∗ ⌜ now (self .exit) .to ≡ now (self .entry) .to ⌝ }
         ensures same { λ _. ⌜ I·Samples .beyond (now (self .exit) .input) ≡ I·Samples .beyond (now (self .entry) .input) ⌝ }
@@ -86,7 +83,7 @@ impl<I: Samples> ChannelCountConverter<I> {
 
     pub fn into_inner(self) -> I
         ensures answer { λ r. ⌜ r ≡ self .input ⌝ }
-        ensures law { λ r. ⌜ ((c t : ℕ) (xs : List Float) (m : ℕ) → Gave (I·Samples .samples) c t xs m self → samples r ≡ drop (channels-used c t m) xs) ⌝ }
+        ensures law { λ r. ⌜ LeavesInput (I·Samples .samples) self r ⌝ }
     {
         let ChannelCountConverter {
             input,
@@ -111,7 +108,7 @@ pub impl<I: Samples> Samples for ChannelCountConverter<I> as ChannelCountConvert
         ensures after { λ _. ⌜ converted (I·Samples .samples) (now (self .exit)) ≡ rest (converted (I·Samples .samples) (now (self .entry))) ⌝ }
         ensures same { λ _. ⌜ I·Samples .beyond (now (self .exit) .input) ≡ I·Samples .beyond (now (self .entry) .input) ⌝ }
         ensures spent { λ r. ⌜ (r ≡ None → I·Samples .below (now (self .exit) .input) ≡ I·Samples .beyond (now (self .exit) .input)) ⌝ }
-        ensures law { λ r. ⌜ ((c t : ℕ) (xs : List Float) (m : ℕ) → Gave (I·Samples .samples) c t xs m (now (self .entry)) → Gave (I·Samples .samples) c t xs (m + cond (isSome r) 1 0) (now (self .exit))) ⌝ }
+        ensures law { λ r. ⌜ GivesOn (I·Samples .samples) (now (self .entry)) r (now (self .exit)) ⌝ }
     {
         let result = self.sample();
         if result.is_some() {
