@@ -1,5 +1,5 @@
 //! rodio's own files, unchanged, from the directory that the link `rodio` beside this file names, and what they lean on.
-//! `source.rs` stands in for the declaration of the `Source` trait.
+//! `source.rs` stands in for the declaration of the `Source` trait, and `num_rational.rs` for the crate of that name.
 
 #[path = "rodio/buffer.rs"]
 pub mod buffer;
@@ -7,10 +7,15 @@ pub mod buffer;
 mod channels;
 #[path = "rodio/common.rs"]
 pub mod common;
+#[path = "rodio/math.rs"]
+mod math;
+#[path = "rodio/conversions/sample_rate.rs"]
+mod sample_rate;
 pub mod source;
 
 pub mod conversions {
     pub use crate::channels::ChannelCountConverter;
+    pub use crate::sample_rate::SampleRateConverter;
 }
 
 pub use common::{ChannelCount, Sample, SampleRate};

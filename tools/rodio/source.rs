@@ -4,6 +4,11 @@ use crate::common::{ChannelCount, SampleRate};
 use crate::Sample;
 use std::time::Duration;
 
+#[path = "rodio/source/uniform.rs"]
+mod uniform;
+
+pub use uniform::UniformSourceIterator;
+
 /// A seek that failed. Seeking is not ported and never called here.
 #[derive(Debug, Clone)]
 pub enum SeekError {

@@ -18,6 +18,10 @@ pub enum Fault {
     NotANumber,
     NotASample,
     ListTooLong,
+    NotASource,
+    NoSuchFormat,
+    EmptySpan,
+    OpenSpanNotLast,
     Memory,
 }
 
@@ -34,6 +38,10 @@ pub impl fmt::Display for Fault as FaultDisplay {
             ),
             Fault::NotASample => write!(f, "? a sample is not written in eight hexadecimal digits"),
             Fault::ListTooLong => write!(f, "? a list is longer than 16777217 samples"),
+            Fault::NotASource => write!(f, "? a source is not written TOTAL;REST;SPAN;SPAN.."),
+            Fault::NoSuchFormat => write!(f, "? a source has a format outside the limits"),
+            Fault::EmptySpan => write!(f, "? a source has an empty span"),
+            Fault::OpenSpanNotLast => write!(f, "? a source has an open span that is not its last"),
             Fault::Memory => write!(f, "? not enough memory"),
         }
     }

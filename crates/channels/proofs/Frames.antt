@@ -5,7 +5,7 @@ use mathlib.Core.Bool.{_&&_}
 use mathlib.Core.Logic.{⊎-elim}
 use mathlib.Core.List.{List, [], _∷_, _++_}
 use native.Mathlib.Omega.{arith}
-use native.Mathlib.Nat.{div-eq-of-lt, mod-eq-of-lt, div-eq-sub-div, mod-eq-sub-mod, zero-mul, one-mul, add-mul, add-div-left, add-mod-left, mul-le-mul-right}
+use native.Mathlib.Nat.{div-add-mod', mod-lt, div-eq-of-lt, mod-eq-of-lt, div-eq-sub-div, mod-eq-sub-mod, zero-mul, one-mul, add-mul, add-div-left, add-mod-left, mul-le-mul-right}
 use lib.Dec.{eqb, ltb}
 use lib.Ieee.{Float}
 use lib.ListN.{length, drop, getD, length-drop}
@@ -74,3 +74,16 @@ pub placed-other : (c : ℕ) (xs : List Float) (p : ℕ) → 2 ≤ c → c ≤ p
 placed-other c xs p two h =
     cond-false (ltb p c) _ _ (le-ltb p c h)
     ∙ cond-false (eqb c 1 && eqb p 1) _ _ (and-left (eqb c 1) (eqb p 1) (ne-eqb c 1 (omega arith)))
+
+-- to as many channels, the list itself
+pub converted-same : (c : ℕ) (xs : List Float) → 0 < c → channels-converted c c xs ≡ xs
+converted-same c xs h = ext-getD silence (channels-converted c c xs) xs (converted-length c c xs ∙ count) places
+  where
+    count : converted-count c c (length xs) ≡ length xs
+    count = omega (arith, div-add-mod' (length xs) c, mod-lt (length xs) h)
+
+    places : (i : ℕ) → i < length (channels-converted c c xs) → getD (channels-converted c c xs) i silence ≡ getD xs i silence
+    places i l =
+        converted-at c c xs i (omega (arith, converted-length c c xs))
+        ∙ placed-own c xs (i / c * c) (i % c) (mod-lt i h)
+        ∙ ap (λ n. getD xs n silence) (div-add-mod' i c)

@@ -1,24 +1,23 @@
 -- One call of `next` over plain values: the sample, and what is left to give after it.
 use Prim.Native.Nat.{ℕ, _+_, _-_, _<_, _≤_, min}
-use mathlib.Core.Bool.{true, false, cond}
-use mathlib.Core.Path.{_≡_, refl, sym, _∙_, ap}
+use mathlib.Core.Bool.{true, false}
+use mathlib.Core.Path.{_≡_, sym, _∙_, ap}
 use mathlib.Core.Logic.{⊎-elim}
 use mathlib.Core.List.{List, [], _∷_, _++_}
 use native.Mathlib.Omega.{arith}
 use lib.Dec.{eqb, ltb}
 use lib.Ieee.{Float}
 use lib.ListN.{drop, replicate}
-use Rattle.std.specs.Options.{valueOr, isSome}
-use Rattle.std.specs.declared.option.Option.{Option}
+use Rattle.std.specs.Options.{isSome}
 use Rattle.std.specs.declared.option.Option.the-variants.{Some, None}
 use Rattle.std.proofs.shelf.Tests.{true≢false, cases-lt, cases-eq, cond-true, cond-false, lt-ltb, le-ltb, eq-eqb, ne-eqb}
-use Rattle.source.specs.Samples.{first, rest, silence}
+use Rattle.source.specs.Samples.{first, rest}
 use Rattle.channels.specs.Channels.{channels-converted}
 use Rattle.channels.specs.Steps.{from-frame, left-to-give, sample-at, input-past, held-past, next-place, input-at-next}
 use Rattle.channels.proofs.Places.{taken-none, taken, filler, filled, used-up, frame-over-taken, frame-over-filled}
 
 -- what a call gives, what is left to give where a sample went out, and where none did
-pub record Turn (c t p : ℕ) (held : Option Float) (ys : List Float) : Type 0 where
+pub record Turn (c t p : ℕ) (held : Float) (ys : List Float) : Type 0 where
   pub gives : sample-at c p held ys ≡ first (left-to-give c t p held ys)
   pub goes-on : isSome (sample-at c p held ys) ≡ true →
       left-to-give c t (next-place t p) (held-past p held ys) (input-at-next c t p (input-past c p ys)) ≡ rest (left-to-give c t p held ys)
@@ -26,11 +25,11 @@ pub record Turn (c t p : ℕ) (held : Option Float) (ys : List Float) : Type 0 w
       left-to-give c t p (held-past p held ys) (input-past c p ys) ≡ rest (left-to-give c t p held ys)
 
 -- a new frame
-start : (c t : ℕ) (held : Option Float) (ys : List Float) → left-to-give c t 0 held ys ≡ channels-converted c t ys
-start c t held ys = let z : min 0 c ≡ 0 = omega arith in ap (λ n. channels-converted c t (replicate n (valueOr held silence) ++ ys)) z
+start : (c t : ℕ) (held : Float) (ys : List Float) → left-to-give c t 0 held ys ≡ channels-converted c t ys
+start c t held ys = let z : min 0 c ≡ 0 = omega arith in ap (λ n. channels-converted c t (replicate n held ++ ys)) z
 
 -- a place that the input has, and no sample left
-turn-none : (c t p : ℕ) (held : Option Float) → p < t → p < c → Turn c t p held []
+turn-none : (c t p : ℕ) (held : Float) → p < t → p < c → Turn c t p held []
 turn-none c t p held l h =
     let b = lt-ltb p c h in
     let s : sample-at c p held [] ≡ None = cond-true (ltb p c) _ _ b in
@@ -42,7 +41,7 @@ turn-none c t p held l h =
     }
 
 -- a place that the input has, and a sample for it
-turn-taken : (c t p : ℕ) (held : Option Float) (y : Float) (ys : List Float) → 0 < c → p < t → p < c → Turn c t p held (y ∷ ys)
+turn-taken : (c t p : ℕ) (held : Float) (y : Float) (ys : List Float) → 0 < c → p < t → p < c → Turn c t p held (y ∷ ys)
 turn-taken c t p held y ys hc l h = record {
   gives = s ∙ sym (ap first (taken c t p held y ys hc l h));
   goes-on = λ _. ap (λ n. left-to-give c t (next-place t p) (held-past p held (y ∷ ys)) (input-at-next c t p n)) i
@@ -73,8 +72,8 @@ turn-taken c t p held y ys hc l h = record {
         ∙ sym (used-up c t p held y ys (omega arith) h)
 
 -- a place that the input has not
-turn-filled : (c t p : ℕ) (held : Option Float) (ys : List Float) → 0 < c → p < t → c ≤ p → isSome held ≡ true → Turn c t p held ys
-turn-filled c t p held ys hc l h k = record {
+turn-filled : (c t p : ℕ) (held : Float) (ys : List Float) → 0 < c → p < t → c ≤ p → Turn c t p held ys
+turn-filled c t p held ys hc l h = record {
   gives = s ∙ sym (ap first (filled c t p held ys hc l h));
   goes-on = λ _. ap (λ o. left-to-give c t (next-place t p) o (input-at-next c t p (input-past c p ys))) o
       ∙ ap (λ n. left-to-give c t (next-place t p) held (input-at-next c t p n)) i
@@ -82,15 +81,8 @@ turn-filled c t p held ys hc l h k = record {
   ends = λ none. absurd (true≢false (sym (ap isSome s) ∙ none));
 }
   where
-    repeated : (x : Option Float) → isSome x ≡ true → x ≡ Some (valueOr x silence)
-    repeated None e = absurd (true≢false (sym e))
-    repeated (Some x) e = refl
-
     s : sample-at c p held ys ≡ Some (filler p held)
-    s = cond-false (ltb p c) _ _ (le-ltb p c h) ∙ ⊎-elim
-        (λ (e : p ≡ 1). let b = eq-eqb p 1 e in cond-true (eqb p 1) _ _ b ∙ repeated held k ∙ ap Some (sym (cond-true (eqb p 1) (valueOr held silence) silence b)))
-        (λ (e : p ≡ 1 → ⊥). let b = ne-eqb p 1 e in cond-false (eqb p 1) _ _ b ∙ ap Some (sym (cond-false (eqb p 1) (valueOr held silence) silence b)))
-        (cases-eq p 1)
+    s = cond-false (ltb p c) _ _ (le-ltb p c h)
 
     i : input-past c p ys ≡ ys
     i = cond-false (ltb p c) _ _ (le-ltb p c h)
@@ -112,10 +104,10 @@ turn-filled c t p held ys hc l h k = record {
         let m : min (p + 1) c ≡ min p c = omega arith in
         ap (λ q. left-to-give c t q held (input-at-next c t p ys)) (cond-false (eqb (p + 1) t) 0 (p + 1) b)
         ∙ ap (left-to-give c t (p + 1) held) (cond-false (eqb (p + 1) t) (drop (c - t) ys) ys b)
-        ∙ ap (λ n. drop (p + 1) (channels-converted c t (replicate n (valueOr held silence) ++ ys))) m
+        ∙ ap (λ n. drop (p + 1) (channels-converted c t (replicate n held ++ ys))) m
 
-pub turn : (c t p : ℕ) (held : Option Float) (ys : List Float) → 0 < c → p < t → (0 < p → isSome held ≡ true) → Turn c t p held ys
-turn c t p held ys hc l k = ⊎-elim (by ys) (λ (h : c ≤ p). turn-filled c t p held ys hc l h (k (omega arith))) (cases-lt p c)
+pub turn : (c t p : ℕ) (held : Float) (ys : List Float) → 0 < c → p < t → Turn c t p held ys
+turn c t p held ys hc l = ⊎-elim (by ys) (λ (h : c ≤ p). turn-filled c t p held ys hc l h) (cases-lt p c)
   where
     by : (zs : List Float) → p < c → Turn c t p held zs
     by [] h = turn-none c t p held l h

@@ -67,7 +67,7 @@ module _ (t m : ℕ) (ht : 0 < t) where
         (cases-eq (m % t + 1) t)
 
 -- the end takes nothing from the input
-pub use-none : (c q : ℕ) (held : Option Float) (ys : List Float) → isSome (sample-at c q held ys) ≡ false → input-past c q ys ≡ ys
+pub use-none : (c q : ℕ) (held : Float) (ys : List Float) → isSome (sample-at c q held ys) ≡ false → input-past c q ys ≡ ys
 use-none c q held ys e = ⊎-elim
     (λ (h : q < c).
     cond-true (ltb q c) _ _ (lt-ltb q c h)

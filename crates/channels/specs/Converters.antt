@@ -39,7 +39,7 @@ module _ {I : Type 0} (of : I → List Float) (s : ChannelCountConverter I) wher
   abbrev pub input-after-sample : List Float
   input-after-sample = input-past (s .from .count) (s .«next_output_sample_pos») (of (s .input))
 
-  abbrev pub held-after-sample : Option Float
+  abbrev pub held-after-sample : Float
   held-after-sample = held-past (s .«next_output_sample_pos») (s .«sample_repeat») (of (s .input))
 
   abbrev pub place-after : ℕ

@@ -1,9 +1,7 @@
 // Making a converter, drawing from it, and taking it apart again.
-ghost use mathlib.Core.Bool.{true};
 ghost use mathlib.Core.Path.{_≡_};
 ghost use denote.Ref.{now};
 ghost use lib.ListN.{drop};
-ghost use Rattle.std.specs.Options.{isSome};
 ghost use Rattle.std.specs.declared.option.Option.the-variants.{None};
 ghost use Rattle.source.specs.Samples.{first, rest};
 ghost use Rattle.channels.specs.Channels.{channels-converted};
@@ -33,7 +31,7 @@ impl<I: Samples> ChannelCountConverter<I> {
             input,
             from,
             to,
-            sample_repeat: None,
+            sample_repeat: 0.0,
             next_output_sample_pos: 0,
         }
     }
@@ -52,18 +50,19 @@ impl<I: Samples> ChannelCountConverter<I> {
             0 => {
                 // kept for the second channel of a mono input
                 let value = self.input.next();
-                self.sample_repeat = value;
+                if let Some(sample) = value {
+                    self.sample_repeat = sample;
+                }
                 value
             }
-            x if x < self.from.get() => self.input.next(),
-            1 => self.sample_repeat,
+            x if x < self.from.get() as usize => self.input.next(),
+            1 => Some(self.sample_repeat),
             _ => Some(0.0),
         }
     }
 
     // Moves on by one place; behind the last place of an output frame the rest of the input frame is dropped.
     fn advance(&mut self)
-        requires held { ⌜ isSome (now self .«sample_repeat») ≡ true ⌝ }
         ensures place { λ _. ⌜ now (self .exit) .«next_output_sample_pos» ≡ place-after (I·Samples .samples) (now (self .entry)) ⌝ }
         ensures input { λ _. ⌜ I·Samples .samples (now (self .exit) .input) ≡ input-after-place (I·Samples .samples) (now (self .entry)) ⌝ }
         ensures held { λ _. ⌜ now (self .exit) .«sample_repeat» ≡ now (self .entry) .«sample_repeat» ⌝ }
@@ -71,7 +70,7 @@ impl<I: Samples> ChannelCountConverter<I> {
         ensures same { λ _. ⌜ I·Samples .beyond (now (self .exit) .input) ≡ I·Samples .beyond (now (self .entry) .input) ⌝ }
     {
         self.next_output_sample_pos += 1;
-        if self.next_output_sample_pos == self.to.get() {
+        if self.next_output_sample_pos == self.to.get() as usize {
             self.next_output_sample_pos = 0;
             let from = self.from.get();
             let to = self.to.get();

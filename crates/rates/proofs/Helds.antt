@@ -58,7 +58,8 @@ next-frame c nxt inp h =
     (cases-lt (length nxt) c)
 
 -- an output frame begins
-pub begun : (n from to c : ℕ) (cur nxt inp : List Float) → n < to → 0 < from → 0 < c → Lined c cur nxt → onward n from to c (cur ++ (nxt ++ behind c nxt inp)) ≡ held n from to c 0 cur nxt (behind c nxt inp)
+pub begun : (n from to c : ℕ) (cur nxt inp : List Float) → n < to → 0 < from → 0 < c → Lined c cur nxt →
+    onward n from to c (cur ++ (nxt ++ behind c nxt inp)) ≡ held n from to c 0 cur nxt (behind c nxt inp)
 begun n from to c cur [] inp h q k l =
     let e : behind c [] inp ≡ [] = behind-short c [] inp k in
     ap (λ t. onward n from to c (cur ++ t)) e ∙ ap (onward n from to c) (append-nil cur) ∙ onward-last n from to c cur h q k (l .0) ∙ sym (append-nil cur)

@@ -84,7 +84,8 @@ last-next to c xs p h k = ⊎-elim few many (cases-lt c (length xs))
         let q : (p + to) / to ≡ p / to + 1 = add-div-right p h in
         let f : frames c (drop c xs) ≡ frames c xs - 1 = frames-drop c xs k in
         let s : frames c xs - 1 ≡ frames c (drop c xs) - 1 + 1 = omega arith in
-        let t : eqb ((p + to) / to) (frames c xs - 1) ≡ eqb (p / to) (frames c (drop c xs) - 1) = eqb-same ((p + to) / to) (frames c xs - 1) (p / to) (frames c (drop c xs) - 1) (λ e. omega arith) (λ e. omega arith) in
+        let t : eqb ((p + to) / to) (frames c xs - 1) ≡ eqb (p / to) (frames c (drop c xs) - 1) =
+        eqb-same ((p + to) / to) (frames c xs - 1) (p / to) (frames c (drop c xs) - 1) (λ e. omega arith) (λ e. omega arith) in
         ap₂ (λ b fr. cond b fr []) t (ap (frame c xs) s ∙ frame-next c xs (frames c (drop c xs) - 1))
 
 ahead-next : (r from to n : ℕ) → ahead (r + to) from to n ≡ ahead r from to (n - 1)
@@ -123,7 +124,8 @@ shown-first r to c xs h =
     simp (mod-eq-of-lt h, div-eq-of-lt h, z, o)
 
 -- one output frame on
-pub onward-frame : (r from to c : ℕ) (xs : List Float) → r < to → 0 < from → 0 < c → c < length xs → onward r from to c xs ≡ both (lerp r to) (take c xs) (take c (drop c xs)) ++ onward (r + from) from to c xs
+pub onward-frame : (r from to c : ℕ) (xs : List Float) → r < to → 0 < from → 0 < c → c < length xs →
+    onward r from to c xs ≡ both (lerp r to) (take c xs) (take c (drop c xs)) ++ onward (r + from) from to c xs
 unfolding onward
 onward-frame r from to c xs h q k l =
     let n = frames c xs in

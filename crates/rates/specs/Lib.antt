@@ -1,3 +1,4 @@
+pub mod Law
 pub mod Onward
 pub mod Rates
 pub mod Walks

@@ -5,10 +5,11 @@ use mathlib.Core.Bool.{cond}
 use mathlib.Core.List.{List, [], _∷_, _++_}
 use lib.Dec.{eqb, ltb}
 use lib.ListN.{length, drop}
-use lib.Ieee.{Float}
+use lib.Ieee.{Float, binary32, ofInt}
+use lib.IntN.{pos}
 use Rattle.std.specs.Iters.{counting}
 use Rattle.std.specs.shelf.Lists.{joined}
-use Rattle.rates.specs.Rates.{both, lerp, frame, frames}
+use Rattle.rates.specs.Rates.{both, lerp, lerp-by, frame, frames}
 
 -- the output frame at a place
 abbrev pub shown-at : ℕ → ℕ → List Float → ℕ → List Float
@@ -28,9 +29,13 @@ onward r from to c xs =
     joined (λ i. shown-at to c xs (r + i * from)) (counting 0 k) ++ last-at to c xs (r + k * from)
 
 -- the output frame between two input frames. Without a next one, the current one goes out as it is
+abbrev pub shown-by : Float → Float → List Float → List Float → List Float
+shown-by n to cur [] = cur
+shown-by n to cur (b ∷ nxt) = both (lerp-by n to) cur (b ∷ nxt)
+
+-- the same for two whole numbers
 abbrev pub shown : ℕ → ℕ → List Float → List Float → List Float
-shown n to cur [] = cur
-shown n to cur (b ∷ nxt) = both (lerp n to) cur (b ∷ nxt)
+shown n to cur nxt = shown-by (ofInt binary32 (pos n)) (ofInt binary32 (pos to)) cur nxt
 
 -- what follows that output frame
 abbrev pub later : ℕ → ℕ → ℕ → ℕ → List Float → List Float → List Float → List Float

@@ -1,12 +1,18 @@
 // Reads cases from standard input, one to a line, and prints the answer to each on a line of its own.
 mod buffer_word;
 mod channels_word;
+mod conversion;
 mod drawing;
 mod formats;
 mod lists;
+mod rate_word;
+mod sources;
+mod uniform_word;
 
 use crate::buffer_word::buffer_answer;
 use crate::channels_word::channels_answer;
+use crate::rate_word::rate_answer;
+use crate::uniform_word::uniform_answer;
 use cases::fault::Fault;
 use cases::fault::FaultDisplay;
 use cases::fault::FaultFromAlloc;
@@ -36,6 +42,8 @@ fn answer(heap: Global, bytes: &[u8]) -> Result<String, Fault> {
     match *word {
         "buffer" => buffer_answer(heap, all.as_slice()),
         "channels" => channels_answer(heap, all.as_slice()),
+        "rate" => rate_answer(heap, all.as_slice()),
+        "uniform" => uniform_answer(heap, all.as_slice()),
         _ => Err(Fault::NoSuchWord),
     }
 }

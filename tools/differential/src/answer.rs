@@ -1,8 +1,10 @@
 //! Rodio's answer to a case. Outside the limits of the port, the number of the refusal.
 
+use crate::spans;
 use crate::text::{self, Fault};
 use rodio::buffer::SamplesBuffer;
-use rodio::conversions::ChannelCountConverter;
+use rodio::conversions::{ChannelCountConverter, SampleRateConverter};
+use rodio::source::UniformSourceIterator;
 use rodio::Source;
 use std::cell::Cell;
 use std::rc::Rc;
@@ -29,14 +31,24 @@ impl<I: Iterator> Iterator for Counted<I> {
     }
 }
 
-fn channels(n: u64) -> Result<u16, Fault> {
+/// A list as an input, and the count of what was drawn from it.
+fn counted(samples: &[f32]) -> (impl Iterator<Item = f32> + '_, Rc<Cell<usize>>) {
+    let drawn = Rc::new(Cell::new(0));
+    let input = Counted {
+        inner: samples.iter().copied(),
+        drawn: drawn.clone(),
+    };
+    (input, drawn)
+}
+
+pub fn channels(n: u64) -> Result<u16, Fault> {
     if n == 0 || n > MOST_CHANNELS {
         return Err(Fault::Refused(2));
     }
     Ok(n as u16)
 }
 
-fn rate(n: u64) -> Result<u32, Fault> {
+pub fn rate(n: u64) -> Result<u32, Fault> {
     if n == 0 || n > HIGHEST_RATE {
         return Err(Fault::Refused(1));
     }
@@ -62,6 +74,22 @@ fn buffer(fields: &[&str]) -> Result<String, Fault> {
     Ok(duration.unwrap_or("none".to_string()))
 }
 
+/// All that a converter gives, how much of its input was used when each sample was given, and whether the end stays the end.
+fn drawn(converter: &mut impl Iterator<Item = f32>, gone: &Cell<usize>, ramp: bool) -> String {
+    let (mut out, mut used) = (Vec::new(), Vec::new());
+    while let Some(sample) = converter.next() {
+        out.push(sample);
+        used.push(gone.get());
+    }
+    if converter.next().is_some() {
+        return "a sample after the end".to_string();
+    }
+    if ramp {
+        used.clear();
+    }
+    format!("{}|{}", text::samples(&out, ramp), text::numbers(&used))
+}
+
 fn channel_conversion(fields: &[&str]) -> Result<String, Fault> {
     let [from, to, list] = fields else {
         return Err(Fault::WrongFields);
@@ -69,24 +97,32 @@ fn channel_conversion(fields: &[&str]) -> Result<String, Fault> {
     let (from, to, list) = (text::number(from)?, text::number(to)?, text::list(list)?);
     let (from, to) = (channels(from)?, channels(to)?);
     cells(&list.samples)?;
-    let drawn = Rc::new(Cell::new(0));
-    let input = Counted {
-        inner: list.samples.iter().copied(),
-        drawn: drawn.clone(),
-    };
+    let (input, gone) = counted(&list.samples);
     let mut converter = ChannelCountConverter::new(input, from, to);
-    let (mut out, mut used) = (Vec::new(), Vec::new());
-    while let Some(sample) = converter.next() {
-        out.push(sample);
-        used.push(drawn.get());
-    }
-    if converter.next().is_some() {
-        return Ok("a sample after the end".to_string());
-    }
-    if list.ramp {
-        used.clear();
-    }
-    Ok(format!("{} {}", text::samples(&out, list.ramp), text::numbers(&used)))
+    Ok(drawn(&mut converter, &gone, list.ramp).replace('|', " "))
+}
+
+fn rate_conversion(fields: &[&str]) -> Result<String, Fault> {
+    let [c, from, to, list] = fields else {
+        return Err(Fault::WrongFields);
+    };
+    let (c, from, to, list) = (text::number(c)?, text::number(from)?, text::number(to)?, text::list(list)?);
+    let (c, from, to) = (channels(c)?, rate(from)?, rate(to)?);
+    cells(&list.samples)?;
+    let (input, gone) = counted(&list.samples);
+    let mut converter = SampleRateConverter::new(input, from, to, c);
+    let made = gone.get();
+    Ok(drawn(&mut converter, &gone, list.ramp).replace('|', &format!(" {made} ")))
+}
+
+fn uniform(fields: &[&str]) -> Result<String, Fault> {
+    let [c, r, source] = fields else {
+        return Err(Fault::WrongFields);
+    };
+    let (c, r, (source, ramp)) = (text::number(c)?, text::number(r)?, spans::read(source)?);
+    let (c, r) = (channels(c)?, rate(r)?);
+    let samples: Vec<f32> = UniformSourceIterator::new(source, c, r).collect();
+    Ok(text::samples(&samples, ramp))
 }
 
 /// The answer to one line.
@@ -98,6 +134,8 @@ pub fn answer(line: &[u8]) -> String {
     let answer = match fields[0] {
         "buffer" => buffer(&fields[1..]),
         "channels" => channel_conversion(&fields[1..]),
+        "rate" => rate_conversion(&fields[1..]),
+        "uniform" => uniform(&fields[1..]),
         _ => Err(Fault::NoSuchWord),
     };
     answer.unwrap_or_else(|fault| fault.to_string())

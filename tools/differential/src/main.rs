@@ -6,6 +6,7 @@
 mod answer;
 mod generate;
 mod random;
+mod spans;
 mod text;
 
 use generate::Generator;

@@ -9,6 +9,10 @@ pub enum Fault {
     NotANumber,
     NotASample,
     ListTooLong,
+    NotASource,
+    NoSuchFormat,
+    EmptySpan,
+    OpenSpanNotLast,
 }
 
 impl std::fmt::Display for Fault {
@@ -21,6 +25,10 @@ impl std::fmt::Display for Fault {
             Fault::NotANumber => "a number is not written in decimal digits, or is too large",
             Fault::NotASample => "a sample is not written in eight hexadecimal digits",
             Fault::ListTooLong => "a list is longer than 16777217 samples",
+            Fault::NotASource => "a source is not written TOTAL;REST;SPAN;SPAN..",
+            Fault::NoSuchFormat => "a source has a format outside the limits",
+            Fault::EmptySpan => "a source has an empty span",
+            Fault::OpenSpanNotLast => "a source has an open span that is not its last",
         };
         write!(f, "? {why}")
     }

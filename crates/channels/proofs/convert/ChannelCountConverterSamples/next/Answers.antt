@@ -5,10 +5,9 @@ use mathlib.Core.Path.{_≡_, sym, _∙_, ap}
 use native.Mathlib.Omega.{arith}
 use lib.ListN.{drop}
 use Rattle.std.specs.Options.{isSome}
-use Rattle.std.specs.declared.option.Option.the-variants.{None}
 use Rattle.std.proofs.shelf.Tests.{true≢false}
 use Rattle.channels.specs.Channels.{channels-used}
-use Rattle.channels.specs.Steps.{sample-at, input-past}
+use Rattle.channels.specs.Steps.{sample-at}
 use Rattle.channels.proofs.Turns.{Turn, turn}
 use Rattle.channels.proofs.Uses.{place-on, use-on, use-none}
 use Rattle.channels.proofs.convert.ChannelCountConverterSamples.next.Needs as need
@@ -19,7 +18,7 @@ returns-then-is-some g c =
     let r = c .sample-result .result in
     let ys = g .I·Samples .samples (s .input) in
     let T : Turn (s .from .count) (s .to .count) (s .«next_output_sample_pos») (s .«sample_repeat») ys =
-    turn (s .from .count) (s .to .count) (s .«next_output_sample_pos») (s .«sample_repeat») ys (s .from .low) (s .place) (s .held) in
+    turn (s .from .count) (s .to .count) (s .«next_output_sample_pos») (s .«sample_repeat») ys (s .from .low) (s .place) in
     let came : isSome r ≡ true = sym (c .if-is-some .ensures tt) in
     let goes = T .goes-on (sym (ap isSome (c .sample-result .ensures .answer)) ∙ came) in
     let one : cond {A = ℕ} (isSome r) 1 0 ≡ 1 = ap (λ b. cond {A = ℕ} b 1 0) came in
@@ -46,7 +45,7 @@ returns-else-is-some g c =
     let r = c .sample-result .result in
     let ys = g .I·Samples .samples (s .input) in
     let T : Turn (s .from .count) (s .to .count) (s .«next_output_sample_pos») (s .«sample_repeat») ys =
-    turn (s .from .count) (s .to .count) (s .«next_output_sample_pos») (s .«sample_repeat») ys (s .from .low) (s .place) (s .held) in
+    turn (s .from .count) (s .to .count) (s .«next_output_sample_pos») (s .«sample_repeat») ys (s .from .low) (s .place) in
     let came : isSome r ≡ false = sym (c .if-is-some .ensures tt) in
     let no : isSome (sample-at (s .from .count) (s .«next_output_sample_pos») (s .«sample_repeat») ys) ≡ false = sym (ap isSome (c .sample-result .ensures .answer)) ∙ came in
     let ends = T .ends no in

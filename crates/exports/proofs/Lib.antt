@@ -1,0 +1,4 @@
+pub mod Answering
+pub mod Hearing
+pub mod Judging
+pub mod Writing
