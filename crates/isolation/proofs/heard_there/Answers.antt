@@ -1,0 +1,5 @@
+use Rattle.isolation.proofs.Witness.{heard-there}
+use Rattle.isolation.proofs.heard_there.Needs as need
+
+pub returns : need.returns
+returns c = record { law = heard-there }

@@ -1,0 +1,5 @@
+use Rattle.isolation.proofs.Mixers.{isolated}
+use Rattle.isolation.proofs.isolated.Needs as need
+
+pub returns : need.returns
+returns c = record { law = isolated }

@@ -1,0 +1,5 @@
+use Rattle.law.proofs.Acceptance.{accepted-once}
+use Rattle.law.proofs.stands.accepted_once.Needs as need
+
+pub returns : need.returns
+returns c = record { law = accepted-once }

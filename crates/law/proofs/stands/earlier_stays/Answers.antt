@@ -1,0 +1,5 @@
+use Rattle.law.proofs.Runs.{earlier-stays}
+use Rattle.law.proofs.stands.earlier_stays.Needs as need
+
+pub returns : need.returns
+returns c = record { law = earlier-stays }

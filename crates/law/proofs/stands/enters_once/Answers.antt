@@ -1,0 +1,5 @@
+use Rattle.law.proofs.Terms.{enters-once}
+use Rattle.law.proofs.stands.enters_once.Needs as need
+
+pub returns : need.returns
+returns c = record { law = enters-once }

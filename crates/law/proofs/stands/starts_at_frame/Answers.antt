@@ -1,0 +1,5 @@
+use Rattle.law.proofs.Starts.{starts-at-frame}
+use Rattle.law.proofs.stands.starts_at_frame.Needs as need
+
+pub returns : need.returns
+returns c = record { law = starts-at-frame }
