@@ -21,7 +21,8 @@ pub struct Joined<B, S> {
 impl<B: Bank, S: Source> Joined<B, S> {
     // The source gets the next number, as its uniform stream in the bank's format. A seventeenth is never heard.
     pub fn new(bank: B, source: S) -> Joined<B, S>
-        ensures answer { λ r. ⌜ lists-of (B·Bank .lists) (S·Source .meaning) r ≡ with-list (lists bank) (uniform (shape bank .channels .count) (shape bank .rate .rate) (listed (meaning source .spans))) ⌝ }
+        ensures answer { λ r. ⌜ lists-of (B·Bank .lists) (S·Source .meaning) r
+            ≡ with-list (lists bank) (uniform (shape bank .channels .count) (shape bank .rate .rate) (listed (meaning source .spans))) ⌝ }
         ensures below { λ r. ⌜ r .bank ≡ bank ⌝ }
     {
         let format = bank.format();
