@@ -42,6 +42,7 @@ accepted-since count past (Next ∷ h) = accepted-since count (Next ∷ past) h
 accepted-since count past (Add i ∷ h) =
     cond (ltb i count && not (names i past)) (record { number = i; after = answers past } ∷ []) [] ++ accepted-since count (Add i ∷ past) h
 
+-- The sources accepted in all calls since a mixer over count lists was made.
 abbrev pub accepted : ℕ → List Call → List Accepted
 accepted count h = accepted-since count [] h
 

@@ -23,6 +23,7 @@ ahead r from to n = ((n - 1) * to - r + (from - 1)) / from
 abbrev pub last-at : ℕ → ℕ → List Float → ℕ → List Float
 last-at to c xs p = cond (eqb (p / to) (frames c xs - 1)) (frame c xs (frames c xs - 1)) []
 
+-- all output samples from place r on
 unfoldable pub onward : ℕ → ℕ → ℕ → ℕ → List Float → List Float
 onward r from to c xs =
     let k = ahead r from to (frames c xs) in

@@ -15,6 +15,7 @@ euclid zero a b = a
 euclid (suc t) a zero = a
 euclid (suc t) a (suc b) = euclid t (suc b) (a % suc b)
 
+-- The greatest number that divides both.
 abbrev pub gcd : ℕ → ℕ → ℕ
 gcd a b = euclid (suc b) a b
 
@@ -32,10 +33,11 @@ both f [] ys = []
 both f (x ∷ xs) [] = []
 both f (x ∷ xs) (y ∷ ys) = f x y ∷ both f xs ys
 
--- Frame j of a list, and how many frames it has; the last may be short.
+-- Frame j of a list; the last may be short.
 abbrev pub frame : ℕ → List Float → ℕ → List Float
 frame c xs j = take c (drop (j * c) xs)
 
+-- How many frames of c samples a list has, the short one included.
 abbrev pub frames : ℕ → List Float → ℕ
 frames c xs = (length xs + (c - 1)) / c
 

@@ -13,6 +13,7 @@ pub record Span : Type 0 where
   pub known : Bool
   pub samples : List Float
 
+-- A span of some samples in a format, known or not.
 abbrev pub span-of : Format → Bool → List Float → Span
 span-of f k xs = record { channels = f .channels .count; rate = f .rate .rate; known = k; samples = xs }
 
