@@ -30,8 +30,8 @@ pub struct Joined<B, S> {
 impl<B: Bank, S: Source> Joined<B, S> {
     // The source gets the next number, as its uniform stream in the bank's format. A seventeenth is never heard.
     pub fn new(bank: B, source: S) -> Joined<B, S>
-        ensures answer { lists_of B.Bank.lists S.Source.meaning result
-            ≡ with_list (lists bank) (uniform (shape bank).channels.count (shape bank).rate.rate (listed (meaning source).spans)) }
+        ensures answer { lists_of B.lists S.meaning result
+            ≡ with_list (B.lists bank) (uniform (B.shape bank).channels.count (B.shape bank).rate.rate (listed (S.meaning source).spans)) }
         ensures below { result.bank ≡ bank }
     {
         let format = bank.format();
@@ -52,9 +52,9 @@ impl<B: Bank, S: Source> Joined<B, S> {
 }
 
 impl<B: Bank, S: Source> Bank for Joined<B, S> {
-    ghost lists = { λ j. lists_of B.Bank.lists S.Source.meaning j };
+    ghost lists = { λ j. lists_of B.lists S.meaning j };
 
-    ghost shape = { λ j. B.Bank.shape j.bank };
+    ghost shape = { λ j. B.shape j.bank };
 
     fn format(&self) -> Format {
         self.bank.format()

@@ -1,4 +1,6 @@
 // The lists that a mixer draws from: sources joined one after another, each as its uniform stream in one format.
+#![tactic(auto)]
+
 pub mod bare;
 pub mod joined;
 

@@ -1,4 +1,6 @@
 // A source over sample cells handed in for reading, written once for every recorded kind.
+#![tactic(auto)]
+
 pub mod play;
 pub mod refusal;
 

@@ -16,7 +16,7 @@ pub const MAX_CELLS: usize = 16_777_216;
 impl<'a, K: Recorded> SamplesBuffer<'a, K> {
     pub fn new(format: Format, cells: &'a [K]) -> Result<SamplesBuffer<'a, K>, BufferRefusal>
         ensures answer { MatchResult result
-            (λ s. (length cells.now ≤ max_cells) × OneOpenSpan format (map K.Recorded.stands cells.now) (buffer_meaning K.Recorded.stands s))
+            (λ s. (length cells.now ≤ max_cells) × OneOpenSpan format (map K.stands cells.now) (buffer_meaning K.stands s))
             (λ e. (max_cells < length cells.now) × (e ≡ TooManyCells)) }
     {
         if cells.len() > MAX_CELLS {
@@ -35,7 +35,7 @@ impl<'a, K: Recorded> SamplesBuffer<'a, K> {
 }
 
 impl<'a, K: Recorded> Source for SamplesBuffer<'a, K> {
-    ghost meaning = { λ s. buffer_meaning K.Recorded.stands s };
+    ghost meaning = { λ s. buffer_meaning K.stands s };
 
     fn channels(&self) -> ChannelCount {
         self.format.channels

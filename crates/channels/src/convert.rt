@@ -11,8 +11,8 @@ use source::Samples;
 
 // Draws n samples, or all there are, and lets them go.
 fn discard<I: Samples>(input: &mut I, n: u16)
-    ensures after { samples input.new ≡ drop n (samples input.old) }
-    ensures same { beyond input.new ≡ beyond input.old }
+    ensures after { I.samples input.new ≡ drop n (I.samples input.old) }
+    ensures same { I.beyond input.new ≡ I.beyond input.old }
 {
     for _ in 0..n {
         let _ = input.next();
@@ -21,9 +21,9 @@ fn discard<I: Samples>(input: &mut I, n: u16)
 
 impl<I: Samples> ChannelCountConverter<I> {
     pub fn new(input: I, from: ChannelCount, to: ChannelCount) -> ChannelCountConverter<I>
-        ensures answer { converted I.Samples.samples result ≡ channels_converted from.count to.count (samples input) }
+        ensures answer { converted I.samples result ≡ channels_converted from.count to.count (I.samples input) }
         ensures same { result.input ≡ input }
-        ensures law { Gave I.Samples.samples from.count to.count (samples input) 0 result }
+        ensures law { Gave I.samples from.count to.count (I.samples input) 0 result }
     {
         ChannelCountConverter {
             input,
@@ -36,13 +36,13 @@ impl<I: Samples> ChannelCountConverter<I> {
 
     // The sample at the place of the output frame that is next.
     fn sample(&mut self) -> Option<f32>
-        ensures answer { result ≡ sample_here I.Samples.samples self.old }
-        ensures input { I.Samples.samples self.new.input ≡ input_after_sample I.Samples.samples self.old }
-        ensures held { self.new.sample_repeat ≡ held_after_sample I.Samples.samples self.old }
+        ensures answer { result ≡ sample_here I.samples self.old }
+        ensures input { I.samples self.new.input ≡ input_after_sample I.samples self.old }
+        ensures held { self.new.sample_repeat ≡ held_after_sample I.samples self.old }
         ensures place { self.new.next_output_sample_pos ≡ self.old.next_output_sample_pos }
         ensures counts { (self.new.from ≡ self.old.from) × (self.new.to ≡ self.old.to) }
-        ensures same { I.Samples.beyond self.new.input ≡ I.Samples.beyond self.old.input }
-        ensures spent { result ≡ None → I.Samples.below self.new.input ≡ I.Samples.beyond self.new.input }
+        ensures same { I.beyond self.new.input ≡ I.beyond self.old.input }
+        ensures spent { result ≡ None → I.below self.new.input ≡ I.beyond self.new.input }
     {
         match self.next_output_sample_pos {
             0 => {
@@ -61,11 +61,11 @@ impl<I: Samples> ChannelCountConverter<I> {
 
     // Moves on by one place; behind the last place of an output frame the rest of the input frame is dropped.
     fn advance(&mut self)
-        ensures place { self.new.next_output_sample_pos ≡ place_after I.Samples.samples self.old }
-        ensures input { I.Samples.samples self.new.input ≡ input_after_place I.Samples.samples self.old }
+        ensures place { self.new.next_output_sample_pos ≡ place_after I.samples self.old }
+        ensures input { I.samples self.new.input ≡ input_after_place I.samples self.old }
         ensures held { self.new.sample_repeat ≡ self.old.sample_repeat }
         ensures counts { (self.new.from ≡ self.old.from) × (self.new.to ≡ self.old.to) }
-        ensures same { I.Samples.beyond self.new.input ≡ I.Samples.beyond self.old.input }
+        ensures same { I.beyond self.new.input ≡ I.beyond self.old.input }
     {
         self.next_output_sample_pos += 1;
         if self.next_output_sample_pos == self.to.get() as usize {
@@ -80,7 +80,7 @@ impl<I: Samples> ChannelCountConverter<I> {
 
     pub fn into_inner(self) -> I
         ensures answer { result ≡ self.input }
-        ensures law { LeavesInput I.Samples.samples self result }
+        ensures law { LeavesInput I.samples self result }
     {
         let ChannelCountConverter {
             input,
@@ -94,18 +94,18 @@ impl<I: Samples> ChannelCountConverter<I> {
 }
 
 impl<I: Samples> Samples for ChannelCountConverter<I> {
-    ghost samples = { λ s. converted I.Samples.samples s };
+    ghost samples = { λ s. converted I.samples s };
 
-    ghost below = { λ s. I.Samples.below s.input };
+    ghost below = { λ s. I.below s.input };
 
-    ghost beyond = { λ s. I.Samples.beyond s.input };
+    ghost beyond = { λ s. I.beyond s.input };
 
     fn next(&mut self) -> Option<f32>
-        ensures answer { result ≡ first (converted I.Samples.samples self.old) }
-        ensures after { converted I.Samples.samples self.new ≡ rest (converted I.Samples.samples self.old) }
-        ensures same { I.Samples.beyond self.new.input ≡ I.Samples.beyond self.old.input }
-        ensures spent { result ≡ None → I.Samples.below self.new.input ≡ I.Samples.beyond self.new.input }
-        ensures law { GivesOn I.Samples.samples self.old result self.new }
+        ensures answer { result ≡ first (converted I.samples self.old) }
+        ensures after { converted I.samples self.new ≡ rest (converted I.samples self.old) }
+        ensures same { I.beyond self.new.input ≡ I.beyond self.old.input }
+        ensures spent { result ≡ None → I.below self.new.input ≡ I.beyond self.new.input }
+        ensures law { GivesOn I.samples self.old result self.new }
     {
         let result = self.sample();
         if result.is_some() {

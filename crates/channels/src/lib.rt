@@ -1,4 +1,6 @@
 // Converts samples from one channel count to another.
+#![tactic(auto)]
+
 pub mod convert;
 
 ghost use Rattle.std.specs.Prelude.{◌<◌};

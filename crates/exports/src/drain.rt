@@ -6,8 +6,8 @@ use source::Samples;
 
 // Draws until the end or until the cells are full, and answers how many samples it wrote.
 pub(crate) fn drain<S: Samples>(input: &mut S, out: &mut [f32]) -> usize
-    ensures answer { result ≡ min (length out.old) (length (samples input.old)) }
-    ensures cells { out.new ≡ written (samples input.old) out.old }
+    ensures answer { result ≡ min (length out.old) (length (S.samples input.old)) }
+    ensures cells { out.new ≡ written (S.samples input.old) out.old }
 {
     let n = out.len();
     for i in 0..n {

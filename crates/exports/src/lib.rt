@@ -1,4 +1,6 @@
 // The conversions as functions over slices, which a static library exports.
+#![tactic(auto)]
+
 mod drain;
 mod over;
 

@@ -19,8 +19,8 @@ pub(crate) fn channels<K: Recorded>(
     format: Format,
     to: ChannelCount,
 ) -> usize
-    ensures answer { result ≡ min (length out.old) (length (from_cells K.Recorded.stands (to_channels format to) input.now)) }
-    ensures cells { out.new ≡ written (from_cells K.Recorded.stands (to_channels format to) input.now) out.old }
+    ensures answer { result ≡ min (length out.old) (length (from_cells K.stands (to_channels format to) input.now)) }
+    ensures cells { out.new ≡ written (from_cells K.stands (to_channels format to) input.now) out.old }
 {
     let buffer = match SamplesBuffer::new(format, input) {
         Ok(buffer) => buffer,
@@ -39,8 +39,8 @@ pub(crate) fn rate<K: Recorded>(
     format: Format,
     to: SampleRate,
 ) -> usize
-    ensures answer { result ≡ min (length out.old) (length (from_cells K.Recorded.stands (to_rate format to) input.now)) }
-    ensures cells { out.new ≡ written (from_cells K.Recorded.stands (to_rate format to) input.now) out.old }
+    ensures answer { result ≡ min (length out.old) (length (from_cells K.stands (to_rate format to) input.now)) }
+    ensures cells { out.new ≡ written (from_cells K.stands (to_rate format to) input.now) out.old }
 {
     let buffer = match SamplesBuffer::new(format, input) {
         Ok(buffer) => buffer,
@@ -64,8 +64,8 @@ pub(crate) fn uniform<K: Recorded>(
     format: Format,
     to: Format,
 ) -> usize
-    ensures answer { result ≡ min (length out.old) (length (from_cells K.Recorded.stands (to_format format to) input.now)) }
-    ensures cells { out.new ≡ written (from_cells K.Recorded.stands (to_format format to) input.now) out.old }
+    ensures answer { result ≡ min (length out.old) (length (from_cells K.stands (to_format format to) input.now)) }
+    ensures cells { out.new ≡ written (from_cells K.stands (to_format format to) input.now) out.old }
 {
     let buffer = match SamplesBuffer::new(format, input) {
         Ok(buffer) => buffer,

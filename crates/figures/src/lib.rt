@@ -1,4 +1,6 @@
 // The short worked examples of the rules, proved together as one statement.
+#![tactic(auto)]
+
 ghost use Rattle.std.specs.Prelude.{◌≡◌, true};
 ghost use Rattle.std.specs.List.{AllByRecursion as All};
 ghost use Rattle.figures.specs.Figures.{Holds, figures};

@@ -23,12 +23,12 @@ pub fn perform_both<P: Bank, Q: Bank>(
     calls: &[Call],
 ) -> Result<BothReplies, AllocError>
     ensures law { IfOk result (λ rs.
-        IsolatedRuns P.Bank.lists Q.Bank.lists calls.now first.old second.old rs.first.items rs.second.items) }
+        IsolatedRuns P.lists Q.lists calls.now first.old second.old rs.first.items rs.second.items) }
     ensures first { MatchResult result
-        (λ rs. PerformsLaw P.Bank.lists calls.now first.old rs.first.items first.new)
+        (λ rs. PerformsLaw P.lists calls.now first.old rs.first.items first.new)
         (λ _. first.new ≡ first.old) }
     ensures second { MatchResult result
-        (λ rs. PerformsLaw Q.Bank.lists calls.now second.old rs.second.items second.new)
+        (λ rs. PerformsLaw Q.lists calls.now second.old rs.second.items second.new)
         (λ _. second.new ≡ second.old) }
 {
     let mut of_first = Vec::with_capacity(heap, calls.len())?;

@@ -1,4 +1,6 @@
 // The law of isolation: what one source holds in one channel is heard on no other channel.
+#![tactic(auto)]
+
 pub mod both;
 
 ghost use Rattle.std.specs.Prelude.{◌≡◌, true};

@@ -1,4 +1,6 @@
 // Joins any number of sources to a bank, and has a visitor do its work with the bank that came of it.
+#![tactic(auto)]
+
 pub mod more;
 pub mod seventeen;
 pub mod source_list;
@@ -19,7 +21,7 @@ pub trait Queue {
     ghost waiting: { Self → List Spans };
 
     fn next_source(&mut self) -> Option<Self::Item>
-        ensures answer { spans_of Self.Item.Source.meaning result ≡ first (waiting self.old) }
+        ensures answer { spans_of Self.Item.meaning result ≡ first (waiting self.old) }
         ensures after { waiting self.new ≡ rest (waiting self.old) };
 }
 
@@ -28,7 +30,7 @@ pub trait Visitor {
     ghost visited: { Shape → List (List Float) → Self → Self → Type 0 };
 
     fn visit<B: Bank>(&mut self, bank: B) -> B
-        ensures after { visited (shape bank) (lists bank) self.old self.new };
+        ensures after { visited (B.shape bank) (B.lists bank) self.old self.new };
 }
 
 // How many sources are joined at most is a type, since each joined source makes a bank of another type.
@@ -36,6 +38,6 @@ pub trait Joins {
     ghost most: { ℕ };
 
     fn join<B: Bank, Q: Queue, V: Visitor>(bank: B, queue: &mut Q, visitor: &mut V) -> B
-        ensures law { visited (shape bank) (with_sources (shape bank) (lists bank) (take most (waiting queue.old))) visitor.old visitor.new }
-        ensures after { waiting queue.new ≡ drop most (waiting queue.old) };
+        ensures law { V.visited (B.shape bank) (with_sources (B.shape bank) (B.lists bank) (take most (Q.waiting queue.old))) visitor.old visitor.new }
+        ensures after { Q.waiting queue.new ≡ drop most (Q.waiting queue.old) };
 }

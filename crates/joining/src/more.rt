@@ -20,7 +20,7 @@ impl Joins for NoMore {
 }
 
 impl<N: Joins> Joins for OneMore<N> {
-    ghost most = { suc N.Joins.most };
+    ghost most = { suc N.most };
 
     fn join<B: Bank, Q: Queue, V: Visitor>(bank: B, queue: &mut Q, visitor: &mut V) -> B {
         match queue.next_source() {

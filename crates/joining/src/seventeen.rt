@@ -15,8 +15,8 @@ type Seventeen = SixteenMore<OneMore<NoMore>>;
 
 // Joins the sources that wait. Seventeen are taken and the others wait on: no bank has a number for more.
 pub fn join_all<B: Bank, Q: Queue, V: Visitor>(bank: B, queue: &mut Q, visitor: &mut V) -> B
-    ensures law { visited (shape bank) (with_sources (shape bank) (lists bank) (waiting queue.old)) visitor.old visitor.new }
-    ensures after { waiting queue.new ≡ drop (suc most_lists) (waiting queue.old) }
+    ensures law { V.visited (B.shape bank) (with_sources (B.shape bank) (B.lists bank) (Q.waiting queue.old)) visitor.old visitor.new }
+    ensures after { Q.waiting queue.new ≡ drop (suc most_lists) (Q.waiting queue.old) }
 {
     <Seventeen as Joins>::join(bank, queue, visitor)
 }

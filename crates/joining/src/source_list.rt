@@ -20,7 +20,7 @@ impl<S: Source + Drop> SourceList<S> {
 impl<S: Source + Drop> Queue for SourceList<S> {
     type Item = S;
 
-    ghost waiting = { λ q. map (λ s. (S.Source.meaning s).spans) q.sources.items };
+    ghost waiting = { λ q. map (λ s. (S.meaning s).spans) q.sources.items };
 
     fn next_source(&mut self) -> Option<S> {
         if self.sources.is_empty() {

@@ -1,4 +1,6 @@
 // The law of mixing: what can be asked of a mixer, what it can reply, and which reply each history of calls has.
+#![tactic(auto)]
+
 pub mod stands;
 
 ghost use Rattle.std.specs.Prelude.{◌≡◌};

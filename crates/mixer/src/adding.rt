@@ -13,7 +13,7 @@ use bank::{Bank, MOST_LISTS};
 impl<B: Bank> Mixer<B> {
     // A mixer in the bank's format, with nothing added and no answer given.
     pub fn new(bank: B) -> Mixer<B>
-        ensures law { Follows B.Bank.lists (shape bank).channels.count (lists bank) [] result }
+        ensures law { Follows B.lists (B.shape bank).channels.count (B.lists bank) [] result }
         ensures bank { result.bank ≡ bank }
     {
         let channels = bank.format().channels;
@@ -27,7 +27,7 @@ impl<B: Bank> Mixer<B> {
 
     // Source `number` is to play from the next whole frame on. Each is added once.
     pub fn add(&mut self, number: usize) -> Result<(), AddRefusal>
-        ensures law { KeepsLaw B.Bank.lists (Add number) self.old (judged result) self.new }
+        ensures law { KeepsLaw B.lists (Add number) self.old (judged result) self.new }
         ensures refused { is_ok result ≡ false → self.new ≡ self.old }
         ensures bank { self.new.bank ≡ self.old.bank }
     {

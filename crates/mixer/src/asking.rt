@@ -21,14 +21,14 @@ fn plays(state: State) -> bool
 
 impl<B: Bank> Mixer<B> {
     pub fn format(&self) -> Format
-        ensures answer { result ≡ B.Bank.shape self.now.bank }
+        ensures answer { result ≡ B.shape self.now.bank }
     {
         self.bank.format()
     }
 
     // The number of a source that plays, or none where none does.
     pub fn playing(&self) -> Option<usize>
-        ensures law { (m : ℕ) (made : List (List Float)) (h : List Call) → Follows B.Bank.lists m made h self.now → WhoPlays m made h result }
+        ensures law { (m : ℕ) (made : List (List Float)) (h : List Call) → Follows B.lists m made h self.now → WhoPlays m made h result }
     {
         for k in 0..self.table.added() {
             let number = self.table.number(k);

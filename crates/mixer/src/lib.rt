@@ -1,4 +1,6 @@
 // Mixes the sources of a bank: each starts at a whole frame, and an answer is the sum of what plays, in the order of adding.
+#![tactic(auto)]
+
 pub mod adding;
 pub mod asking;
 pub mod mixing;

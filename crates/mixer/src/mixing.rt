@@ -41,8 +41,8 @@ fn phase_after(phase: u16, channels: ChannelCount) -> u16
 impl<B: Bank> Mixer<B> {
     // At a frame's start the waiting sources begin.
     fn start(&mut self)
-        ensures law { (m : ℕ) (made : List (List Float)) (h : List Call) → Follows B.Bank.lists m made h self.old →
-            Partway B.Bank.lists m made h (suc (answers h)) (λ _. answers h) self.new }
+        ensures law { (m : ℕ) (made : List (List Float)) (h : List Call) → Follows B.lists m made h self.old →
+            Partway B.lists m made h (suc (answers h)) (λ _. answers h) self.new }
         ensures added { self.new.table.added ≡ self.old.table.added }
         ensures bank { self.new.bank ≡ self.old.bank }
     {
@@ -54,9 +54,9 @@ impl<B: Bank> Mixer<B> {
     // The turn of source i: if it plays, it gives its next sample or is found ended.
     fn turn(&mut self, i: usize) -> Option<f32>
         requires { i < most_lists }
-        ensures answer { result ≡ given (state_at self.old i) (slice_index_or (B.Bank.lists self.old.bank) i []) }
-        ensures after { Took B.Bank.lists i self.old self.new }
-        ensures same { B.Bank.shape self.new.bank ≡ B.Bank.shape self.old.bank }
+        ensures answer { result ≡ given (state_at self.old i) (slice_index_or (B.lists self.old.bank) i []) }
+        ensures after { Took B.lists i self.old self.new }
+        ensures same { B.shape self.new.bank ≡ B.shape self.old.bank }
     {
         match self.table.state(i) {
             State::Playing(_) => {
@@ -72,8 +72,8 @@ impl<B: Bank> Mixer<B> {
 
     // The next answer: the sum of what the playing sources give, or the end where none gives a sample.
     pub fn next(&mut self) -> Option<f32>
-        ensures law { KeepsLaw B.Bank.lists Next self.old (drawn result) self.new }
-        ensures same { B.Bank.shape self.new.bank ≡ B.Bank.shape self.old.bank }
+        ensures law { KeepsLaw B.lists Next self.old (drawn result) self.new }
+        ensures same { B.shape self.new.bank ≡ B.shape self.old.bank }
     {
         self.start();
         let mut sum = None;

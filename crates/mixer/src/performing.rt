@@ -31,7 +31,7 @@ fn reply_to_next(answer: Option<f32>) -> Reply
 impl<B: Bank> Mixer<B> {
     // Makes one call.
     pub fn call(&mut self, call: Call) -> Reply
-        ensures law { KeepsLaw B.Bank.lists call self.old result self.new }
+        ensures law { KeepsLaw B.lists call self.old result self.new }
     {
         match call {
             Call::Add(number) => reply_to_add(self.add(number)),
@@ -42,7 +42,7 @@ impl<B: Bank> Mixer<B> {
     // Makes the calls in order, and answers the reply to each. Without memory for the replies no call is made.
     pub fn perform(&mut self, heap: Global, calls: &[Call]) -> Result<Vec<Reply>, AllocError>
         ensures law { MatchResult result
-            (λ rs. PerformsLaw B.Bank.lists calls.now self.old rs.items self.new)
+            (λ rs. PerformsLaw B.lists calls.now self.old rs.items self.new)
             (λ _. self.new ≡ self.old) }
     {
         let mut replies = Vec::with_capacity(heap, calls.len())?;

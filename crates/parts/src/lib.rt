@@ -1,4 +1,6 @@
 // Mixes parts of lent cells, each part a source.
+#![tactic(auto)]
+
 pub mod mixing;
 pub mod queue;
 

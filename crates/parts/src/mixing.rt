@@ -35,7 +35,7 @@ impl Visitor for Answers<'_> {
 
 // Adds the numbers below n, in order.
 fn add_all<B: Bank>(mixer: &mut Mixer<B>, n: usize)
-    ensures law { (m : ℕ) (made : List (List Float)) → Follows B.Bank.lists m made [] mixer.old → Follows B.Bank.lists m made (adds n) mixer.new }
+    ensures law { (m : ℕ) (made : List (List Float)) → Follows B.lists m made [] mixer.old → Follows B.lists m made (adds n) mixer.new }
 {
     for i in 0..n {
         let _ = mixer.add(i);
@@ -44,7 +44,7 @@ fn add_all<B: Bank>(mixer: &mut Mixer<B>, n: usize)
 
 // Draws until the end or until the cells are full, and answers how many answers it wrote.
 fn drain<B: Bank>(mixer: &mut Mixer<B>, out: &mut [f32]) -> usize
-    ensures law { (m : ℕ) (made : List (List Float)) → Follows B.Bank.lists m made (adds (length made)) mixer.old → Summed m made out.old out.new result }
+    ensures law { (m : ℕ) (made : List (List Float)) → Follows B.lists m made (adds (length made)) mixer.old → Summed m made out.old out.new result }
 {
     let n = out.len();
     for i in 0..n {
@@ -65,7 +65,7 @@ pub fn mix<K: Recorded>(
     sources: usize,
     to: Format,
 ) -> usize
-    ensures cells { Summed to.channels.count (with_sources to [] (parts_of K.Recorded.stands format each sources cells.now)) out.old out.new result }
+    ensures cells { Summed to.channels.count (with_sources to [] (parts_of K.stands format each sources cells.now)) out.old out.new result }
 {
     let mut parts = Parts::new(cells, format, each, sources);
     let mut answers = Answers { out, given: 0 };

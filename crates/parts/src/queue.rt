@@ -27,7 +27,7 @@ impl<'a, K: Recorded> Parts<'a, K> {
 impl<'a, K: Recorded> Queue for Parts<'a, K> {
     type Item = SamplesBuffer<'a, K>;
 
-    ghost waiting = { λ q. parts_of K.Recorded.stands q.format q.each q.left q.cells.now };
+    ghost waiting = { λ q. parts_of K.stands q.format q.each q.left q.cells.now };
 
     fn next_source(&mut self) -> Option<SamplesBuffer<'a, K>> {
         if self.left == 0 || self.each > self.cells.len() {

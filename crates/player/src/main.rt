@@ -1,4 +1,6 @@
 // A player with one short recording: each key that is read adds a source or draws an answer, and each reply is printed.
+#![tactic(auto)]
+
 mod keys;
 mod lines;
 mod play;

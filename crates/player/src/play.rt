@@ -54,7 +54,7 @@ pub(crate) fn play<K: Recorded>(
     cells: &[K],
     calls: &[Call],
 ) -> Result<Vec<Reply>, Failure>
-    ensures law { IfOk result (λ rs. Told format.channels.count (map K.Recorded.stands cells.now ∷ []) [] calls.now rs.items) }
+    ensures law { IfOk result (λ rs. Told format.channels.count (map K.stands cells.now ∷ []) [] calls.now rs.items) }
 {
     let recording = SamplesBuffer::new(format, cells)?;
     let mut mixer = Mixer::new(Joined::new(BareBank::new(format), recording));

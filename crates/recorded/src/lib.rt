@@ -1,4 +1,6 @@
 // Recorded kinds: the types of value that a sample cell can hold, each value standing for one f32 sample.
+#![tactic(auto)]
+
 pub mod kinds;
 
 ghost use Rattle.std.specs.Prelude.{◌≡◌, Float};

@@ -19,8 +19,8 @@ pub(crate) fn write_all<S: Samples>(
 
 // Draws n samples, and answers whether there were as many.
 pub(crate) fn draw<S: Samples>(input: &mut S, n: usize) -> bool
-    ensures answer { result ≡ nat_le n (length (samples input.old)) }
-    ensures after { samples input.new ≡ drop n (samples input.old) }
+    ensures answer { result ≡ nat_le n (length (S.samples input.old)) }
+    ensures after { S.samples input.new ≡ drop n (S.samples input.old) }
 {
     for _ in 0..n {
         if input.next().is_none() {
@@ -32,8 +32,8 @@ pub(crate) fn draw<S: Samples>(input: &mut S, n: usize) -> bool
 
 // Draws all samples, and answers how many there were.
 pub(crate) fn count<S: Samples>(input: &mut S) -> usize
-    ensures answer { result ≡ min (length (samples input.old)) (2 ^ 64 - 1) }
-    ensures after { samples input.new ≡ [] }
+    ensures answer { result ≡ min (length (S.samples input.old)) (2 ^ 64 - 1) }
+    ensures after { S.samples input.new ≡ [] }
 {
     let mut n: usize = 0;
     while let Some(_) = input.next() {

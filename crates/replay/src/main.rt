@@ -1,4 +1,6 @@
 // Reads cases from standard input, one to a line, and prints the answer to each on a line of its own.
+#![tactic(auto)]
+
 mod bank_word;
 mod buffer_word;
 mod calls;

@@ -33,9 +33,9 @@ impl Pace {
 
 impl<I: Samples> Resampler<I> {
     pub fn new(input: I, pace: Pace, channels: ChannelCount) -> Resampler<I>
-        ensures answer { remaining I.Samples.samples result ≡ resampled pace.from pace.to channels.count (samples input) }
-        ensures same { beyond result.window.input ≡ beyond input }
-        ensures law { Drawn I.Samples.samples (samples input) 0 result }
+        ensures answer { remaining I.samples result ≡ resampled pace.from pace.to channels.count (I.samples input) }
+        ensures same { I.beyond result.window.input ≡ I.beyond input }
+        ensures law { Drawn I.samples (I.samples input) 0 result }
         ensures pace { result.pace ≡ pace }
         ensures channels { result.window.channels ≡ channels }
     {
@@ -57,12 +57,12 @@ impl<I: Samples> Resampler<I> {
 
     // Moves on to the next output frame.
     fn begin(&mut self)
-        ensures after { remaining I.Samples.samples self.new ≡ following I.Samples.samples self.old }
+        ensures after { remaining I.samples self.new ≡ following I.samples self.old }
         ensures at { self.new.at ≡ 0 }
         ensures place { self.new.n ≡ place_next self.old }
-        ensures passed { seen I.Samples.samples self.new.window ≡ seen_past I.Samples.samples (steps_next self.old) self.old.window }
-        ensures law { EndsOn I.Samples.samples self.old.window self.new.window }
-        ensures same { beyond self.new.window.input ≡ beyond self.old.window.input }
+        ensures passed { seen I.samples self.new.window ≡ seen_past I.samples (steps_next self.old) self.old.window }
+        ensures law { EndsOn I.samples self.old.window self.new.window }
+        ensures same { I.beyond self.new.window.input ≡ I.beyond self.old.window.input }
         ensures pace { self.new.pace ≡ self.old.pace }
         ensures channels { self.new.window.channels ≡ self.old.window.channels }
     {
@@ -79,7 +79,7 @@ impl<I: Samples> Resampler<I> {
 
     pub fn into_inner(self) -> I
         ensures answer { result ≡ self.window.input }
-        ensures law { LeavesInput I.Samples.samples self result }
+        ensures law { LeavesInput I.samples self result }
     {
         let Resampler {
             window,
@@ -92,19 +92,19 @@ impl<I: Samples> Resampler<I> {
 }
 
 impl<I: Samples> Samples for Resampler<I> {
-    ghost samples = { λ s. remaining I.Samples.samples s };
+    ghost samples = { λ s. remaining I.samples s };
 
-    ghost below = { λ s. I.Samples.below s.window.input };
+    ghost below = { λ s. I.below s.window.input };
 
-    ghost beyond = { λ s. I.Samples.beyond s.window.input };
+    ghost beyond = { λ s. I.beyond s.window.input };
 
     fn next(&mut self) -> Option<f32>
-        ensures answer { result ≡ first (remaining I.Samples.samples self.old) }
-        ensures after { remaining I.Samples.samples self.new ≡ rest (remaining I.Samples.samples self.old) }
-        ensures same { I.Samples.beyond self.new.window.input ≡ I.Samples.beyond self.old.window.input }
-        ensures spent { result ≡ None → I.Samples.below self.new.window.input ≡ I.Samples.beyond self.new.window.input }
-        ensures drained { result ≡ None → I.Samples.samples self.new.window.input ≡ [] }
-        ensures law { DrawsOn I.Samples.samples self.old result self.new }
+        ensures answer { result ≡ first (remaining I.samples self.old) }
+        ensures after { remaining I.samples self.new ≡ rest (remaining I.samples self.old) }
+        ensures same { I.beyond self.new.window.input ≡ I.beyond self.old.window.input }
+        ensures spent { result ≡ None → I.below self.new.window.input ≡ I.beyond self.new.window.input }
+        ensures drained { result ≡ None → I.samples self.new.window.input ≡ [] }
+        ensures law { DrawsOn I.samples self.old result self.new }
         ensures pace { self.new.pace ≡ self.old.pace }
         ensures channels { self.new.window.channels ≡ self.old.window.channels }
     {

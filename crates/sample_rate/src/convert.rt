@@ -18,10 +18,10 @@ impl<I: Samples> SampleRateConverter<I> {
         to: SampleRate,
         channels: ChannelCount,
     ) -> SampleRateConverter<I>
-        ensures answer { converted I.Samples.samples result ≡ rate_converted from.rate to.rate channels.count (samples input) }
-        ensures same { beyond (inner result) ≡ beyond input }
-        ensures law { Given I.Samples.samples from.rate to.rate channels.count (samples input) 0 result }
-        ensures frames { RateLaw from.rate to.rate channels.count (samples input) (converted I.Samples.samples result) }
+        ensures answer { converted I.samples result ≡ rate_converted from.rate to.rate channels.count (I.samples input) }
+        ensures same { I.beyond (inner result) ≡ I.beyond input }
+        ensures law { Given I.samples from.rate to.rate channels.count (I.samples input) 0 result }
+        ensures frames { RateLaw from.rate to.rate channels.count (I.samples input) (converted I.samples result) }
     {
         if from.get() == to.get() {
             return SampleRateConverter {
@@ -36,7 +36,7 @@ impl<I: Samples> SampleRateConverter<I> {
 
     pub fn into_inner(self) -> I
         ensures answer { result ≡ inner self }
-        ensures law { LeavesInput I.Samples.samples self result }
+        ensures law { LeavesInput I.samples self result }
     {
         let SampleRateConverter { way } = self;
         match way {
@@ -47,19 +47,19 @@ impl<I: Samples> SampleRateConverter<I> {
 }
 
 impl<I: Samples> Samples for SampleRateConverter<I> {
-    ghost samples = { λ s. converted I.Samples.samples s };
+    ghost samples = { λ s. converted I.samples s };
 
-    ghost below = { λ s. I.Samples.below (inner s) };
+    ghost below = { λ s. I.below (inner s) };
 
-    ghost beyond = { λ s. I.Samples.beyond (inner s) };
+    ghost beyond = { λ s. I.beyond (inner s) };
 
     fn next(&mut self) -> Option<f32>
-        ensures answer { result ≡ first (converted I.Samples.samples self.old) }
-        ensures after { converted I.Samples.samples self.new ≡ rest (converted I.Samples.samples self.old) }
-        ensures same { I.Samples.beyond (inner self.new) ≡ I.Samples.beyond (inner self.old) }
-        ensures spent { result ≡ None → I.Samples.below (inner self.new) ≡ I.Samples.beyond (inner self.new) }
-        ensures drained { result ≡ None → I.Samples.samples (inner self.new) ≡ [] }
-        ensures law { GivesOn I.Samples.samples self.old result self.new }
+        ensures answer { result ≡ first (converted I.samples self.old) }
+        ensures after { converted I.samples self.new ≡ rest (converted I.samples self.old) }
+        ensures same { I.beyond (inner self.new) ≡ I.beyond (inner self.old) }
+        ensures spent { result ≡ None → I.below (inner self.new) ≡ I.beyond (inner self.new) }
+        ensures drained { result ≡ None → I.samples (inner self.new) ≡ [] }
+        ensures law { GivesOn I.samples self.old result self.new }
     {
         match &mut self.way {
             Way::Same(input) => input.next(),

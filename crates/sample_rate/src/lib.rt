@@ -1,4 +1,6 @@
 // Converts samples from one rate to another.
+#![tactic(auto)]
+
 pub mod convert;
 mod way;
 

@@ -24,11 +24,11 @@ impl<S: Source> Flattened<S> {
 }
 
 impl<S: Source> Samples for Flattened<S> {
-    ghost samples = { λ s. samples_of (S.Source.meaning s.input) };
+    ghost samples = { λ s. samples_of (S.meaning s.input) };
 
-    ghost below = { λ s. S.Source.meaning s.input };
+    ghost below = { λ s. S.meaning s.input };
 
-    ghost beyond = { λ s. at_end (S.Source.meaning s.input) };
+    ghost beyond = { λ s. at_end (S.meaning s.input) };
 
     fn next(&mut self) -> Option<f32> {
         self.input.next()

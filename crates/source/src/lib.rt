@@ -1,4 +1,6 @@
 // What the players' parts ask of one another: a list of samples, and a source of spans in formats of their own.
+#![tactic(auto)]
+
 pub mod flattened;
 
 ghost use Rattle.std.specs.Prelude.{◌≡◌, List, None, Float};

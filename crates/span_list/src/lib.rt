@@ -1,4 +1,6 @@
 // A source of any list of spans, held in memory: the model for a source of your own.
+#![tactic(auto)]
+
 pub mod known_span;
 pub mod play;
 

@@ -1,4 +1,6 @@
 // Tests on examples, with values worked out from the rules.
+#![tactic(auto)]
+
 #[cfg(test)]
 mod buffers;
 #[cfg(test)]

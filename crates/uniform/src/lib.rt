@@ -1,4 +1,6 @@
 // Reads any source in one format: each piece of it is converted to the target rate and then to the target channels.
+#![tactic(auto)]
+
 pub mod stream;
 mod take;
 

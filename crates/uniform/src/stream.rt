@@ -21,8 +21,8 @@ fn bootstrap<S: Source>(
     input: S,
     format: Format,
 ) -> ChannelCountConverter<SampleRateConverter<Take<S>>>
-    ensures stream { stream_left S.Source.meaning format (Some result) ≡ uniform format.channels.count format.rate.rate (listed (meaning input).spans) }
-    ensures first { first (chain_left S.Source.meaning result) ≡ first (uniform format.channels.count format.rate.rate (listed (meaning input).spans)) }
+    ensures stream { stream_left S.meaning format (Some result) ≡ uniform format.channels.count format.rate.rate (listed (S.meaning input).spans) }
+    ensures first { first (chain_left S.meaning result) ≡ first (uniform format.channels.count format.rate.rate (listed (S.meaning input).spans)) }
 {
     let n = match input.current_span_len() {
         Some(n) => Some(n.min(CUT_LENGTH)),
@@ -36,8 +36,8 @@ fn bootstrap<S: Source>(
 
 impl<S: Source> UniformSourceIterator<S> {
     pub fn new(input: S, format: Format) -> UniformSourceIterator<S>
-        ensures answer { uniform_meaning S.Source.meaning result ≡ in_one_format format (meaning input) }
-        ensures law { Untouched format (meaning input) (uniform_meaning S.Source.meaning result) }
+        ensures answer { uniform_meaning S.meaning result ≡ in_one_format format (S.meaning input) }
+        ensures law { Untouched format (S.meaning input) (uniform_meaning S.meaning result) }
     {
         let total_duration = input.total_duration();
         UniformSourceIterator {
@@ -64,10 +64,10 @@ impl<S: Source> UniformSourceIterator<S> {
 
     // The next sample of the piece.
     fn draw(&mut self) -> Option<f32>
-        ensures answer { result ≡ first (piece_of S.Source.meaning self.old.inner) }
-        ensures after { piece_of S.Source.meaning self.new.inner ≡ rest (piece_of S.Source.meaning self.old.inner) }
-        ensures same { behind_of S.Source.meaning self.new.inner ≡ behind_of S.Source.meaning self.old.inner }
-        ensures spent { result ≡ None → below_of S.Source.meaning self.new.inner ≡ behind_of S.Source.meaning self.new.inner }
+        ensures answer { result ≡ first (piece_of S.meaning self.old.inner) }
+        ensures after { piece_of S.meaning self.new.inner ≡ rest (piece_of S.meaning self.old.inner) }
+        ensures same { behind_of S.meaning self.new.inner ≡ behind_of S.meaning self.old.inner }
+        ensures spent { result ≡ None → below_of S.meaning self.new.inner ≡ behind_of S.meaning self.new.inner }
         ensures format { self.new.format ≡ self.old.format }
         ensures duration { self.new.total_duration ≡ self.old.total_duration }
     {
@@ -79,10 +79,10 @@ impl<S: Source> UniformSourceIterator<S> {
 
     // Goes on to the next piece, where this one is spent.
     fn renew(&mut self)
-        requires piece { piece_of S.Source.meaning self.old.inner ≡ [] }
-        requires spent { below_of S.Source.meaning self.old.inner ≡ behind_of S.Source.meaning self.old.inner }
-        ensures stream { left_of S.Source.meaning self.new ≡ left_of S.Source.meaning self.old }
-        ensures first { first (piece_of S.Source.meaning self.new.inner) ≡ first (left_of S.Source.meaning self.new) }
+        requires piece { piece_of S.meaning self.old.inner ≡ [] }
+        requires spent { below_of S.meaning self.old.inner ≡ behind_of S.meaning self.old.inner }
+        ensures stream { left_of S.meaning self.new ≡ left_of S.meaning self.old }
+        ensures first { first (piece_of S.meaning self.new.inner) ≡ first (left_of S.meaning self.new) }
         ensures format { self.new.format ≡ self.old.format }
         ensures duration { self.new.total_duration ≡ self.old.total_duration }
     {
@@ -98,7 +98,7 @@ impl<S: Source> UniformSourceIterator<S> {
 }
 
 impl<S: Source> Source for UniformSourceIterator<S> {
-    ghost meaning = { λ s. uniform_meaning S.Source.meaning s };
+    ghost meaning = { λ s. uniform_meaning S.meaning s };
 
     fn channels(&self) -> ChannelCount {
         self.format.channels

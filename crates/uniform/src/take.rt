@@ -28,11 +28,11 @@ impl<S: Source> Take<S> {
 }
 
 impl<S: Source> Samples for Take<S> {
-    ghost samples = { λ s. taken s.n (samples_of (S.Source.meaning s.iter)) };
+    ghost samples = { λ s. taken s.n (samples_of (S.meaning s.iter)) };
 
-    ghost below = { λ s. S.Source.meaning s.iter };
+    ghost below = { λ s. S.meaning s.iter };
 
-    ghost beyond = { λ s. behind s.n (S.Source.meaning s.iter) };
+    ghost beyond = { λ s. behind s.n (S.meaning s.iter) };
 
     fn next(&mut self) -> Option<f32> {
         match self.n {

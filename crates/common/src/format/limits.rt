@@ -1,7 +1,7 @@
 // Making formats, which is where the limits are checked, and reading them.
 ghost use Rattle.std.specs.Prelude.{◌≡◌, ◌≤◌};
 ghost use Rattle.common.specs.Formats.{channels_judged, rate_judged, format_judged, count_of, rate_of, numbers_of};
-ghost use Rattle.common.specs.Limits.{max_channels as most-channels, max_rate as highest-rate};
+ghost use Rattle.common.specs.Limits.{max_channels as most_channels, max_rate as highest_rate};
 
 use super::{ChannelCount, Format, SampleRate};
 use crate::refusal::FormatRefusal;
@@ -23,7 +23,7 @@ impl ChannelCount {
     pub fn get(self) -> u16
         ensures answer { result ≡ self.count }
         ensures low { 1 ≤ result }
-        ensures high { result ≤ most-channels }
+        ensures high { result ≤ most_channels }
     {
         self.count
     }
@@ -42,7 +42,7 @@ impl SampleRate {
     pub fn get(self) -> u32
         ensures answer { result ≡ self.rate }
         ensures low { 1 ≤ result }
-        ensures high { result ≤ highest-rate }
+        ensures high { result ≤ highest_rate }
     {
         self.rate
     }

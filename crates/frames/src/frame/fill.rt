@@ -34,9 +34,9 @@ impl Frame {
 
     // Reads the next samples of `input`, one for each channel, or fewer at its end.
     pub fn refill<I: Samples>(&mut self, input: &mut I, channels: ChannelCount)
-        ensures filled { framed self.new ≡ take channels.count (samples input.old) }
-        ensures after { samples input.new ≡ drop channels.count (samples input.old) }
-        ensures same { beyond input.new ≡ beyond input.old }
+        ensures filled { framed self.new ≡ take channels.count (I.samples input.old) }
+        ensures after { I.samples input.new ≡ drop channels.count (I.samples input.old) }
+        ensures same { I.beyond input.new ≡ I.beyond input.old }
     {
         let count = channels.get() as usize;
         for i in 0..count {
@@ -55,9 +55,9 @@ impl Frame {
     // a loop of its own for either would become a call that costs more than it copies.
     pub(crate) fn shift<I: Samples>(&mut self, next: &mut Frame, input: &mut I)
         ensures taken { framed self.new ≡ framed next.old }
-        ensures filled { framed next.new ≡ take (length (framed next.old)) (samples input.old) }
-        ensures after { samples input.new ≡ drop (length (framed next.old)) (samples input.old) }
-        ensures same { beyond input.new ≡ beyond input.old }
+        ensures filled { framed next.new ≡ take (length (framed next.old)) (I.samples input.old) }
+        ensures after { I.samples input.new ≡ drop (length (framed next.old)) (I.samples input.old) }
+        ensures same { I.beyond input.new ≡ I.beyond input.old }
     {
         let count = next.len;
         let mut read = 0;

@@ -12,8 +12,8 @@ use source::Samples;
 
 // Draws n samples, or all there are, and lets them go.
 fn discard<I: Samples>(input: &mut I, n: usize)
-    ensures after { samples input.new ≡ drop n (samples input.old) }
-    ensures same { beyond input.new ≡ beyond input.old }
+    ensures after { I.samples input.new ≡ drop n (I.samples input.old) }
+    ensures same { I.beyond input.new ≡ I.beyond input.old }
 {
     for i in 0..n {
         match input.next() {
@@ -25,10 +25,10 @@ fn discard<I: Samples>(input: &mut I, n: usize)
 
 impl<I: Samples> Window<I> {
     pub fn new(input: I, channels: ChannelCount) -> Window<I>
-        ensures answer { seen I.Samples.samples result ≡ samples input }
-        ensures same { beyond result.input ≡ beyond input }
+        ensures answer { seen I.samples result ≡ I.samples input }
+        ensures same { I.beyond result.input ≡ I.beyond input }
         ensures channels { result.channels ≡ channels }
-        ensures law { Ended I.Samples.samples result }
+        ensures law { Ended I.samples result }
     {
         let mut input = input;
         let mut current = Frame::new();
@@ -45,10 +45,10 @@ impl<I: Samples> Window<I> {
 
     // One frame on. A short frame is the last.
     fn advance(&mut self)
-        ensures after { seen I.Samples.samples self.new ≡ seen_past I.Samples.samples 1 self.old }
-        ensures same { beyond self.new.input ≡ beyond self.old.input }
+        ensures after { seen I.samples self.new ≡ seen_past I.samples 1 self.old }
+        ensures same { I.beyond self.new.input ≡ I.beyond self.old.input }
         ensures channels { self.new.channels ≡ self.old.channels }
-        ensures law { EndsOn I.Samples.samples self.old self.new }
+        ensures law { EndsOn I.samples self.old self.new }
     {
         if self.next.len() < self.channels.get() as usize {
             self.current.copy_from(&self.next);
@@ -60,10 +60,10 @@ impl<I: Samples> Window<I> {
 
     // Past both frames and `frames` more.
     fn leap(&mut self, frames: u32)
-        ensures after { seen I.Samples.samples self.new ≡ seen_past I.Samples.samples (frames + 2) self.old }
-        ensures same { beyond self.new.input ≡ beyond self.old.input }
+        ensures after { seen I.samples self.new ≡ seen_past I.samples (frames + 2) self.old }
+        ensures same { I.beyond self.new.input ≡ I.beyond self.old.input }
         ensures channels { self.new.channels ≡ self.old.channels }
-        ensures law { EndsOn I.Samples.samples self.old self.new }
+        ensures law { EndsOn I.samples self.old self.new }
     {
         let count = self.channels.get() as usize;
         if self.next.len() < count {
@@ -77,10 +77,10 @@ impl<I: Samples> Window<I> {
     }
 
     pub fn skip(&mut self, steps: u32)
-        ensures after { seen I.Samples.samples self.new ≡ seen_past I.Samples.samples steps self.old }
-        ensures same { beyond self.new.input ≡ beyond self.old.input }
+        ensures after { seen I.samples self.new ≡ seen_past I.samples steps self.old }
+        ensures same { I.beyond self.new.input ≡ I.beyond self.old.input }
         ensures channels { self.new.channels ≡ self.old.channels }
-        ensures law { EndsOn I.Samples.samples self.old self.new }
+        ensures law { EndsOn I.samples self.old self.new }
     {
         if steps == 1 {
             self.advance();
@@ -109,9 +109,9 @@ impl<I: Samples> Window<I> {
 
     // Draws all that the input has left.
     pub fn exhaust(&mut self)
-        ensures after { I.Samples.samples self.new.input ≡ [] }
-        ensures same { beyond self.new.input ≡ beyond self.old.input }
-        ensures spent { below self.new.input ≡ beyond self.new.input }
+        ensures after { I.samples self.new.input ≡ [] }
+        ensures same { I.beyond self.new.input ≡ I.beyond self.old.input }
+        ensures spent { I.below self.new.input ≡ I.beyond self.new.input }
         ensures frames { (self.new.current ≡ self.old.current) × (self.new.next ≡ self.old.next) }
         ensures channels { self.new.channels ≡ self.old.channels }
     {
