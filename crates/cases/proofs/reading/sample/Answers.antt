@@ -12,14 +12,14 @@ no_plus (x ∷ xs) e n = omega (arith, ap digit_value e, n.1.0)
 
 pub returns-then-bytes-eq43 : goal.returns-then-bytes-eq43
 returns-then-bytes-eq43 c = record {
-  answer = λ h. no_plus c.args.word.now (ap (λ w. get_or w 0 0) (sym c.as-bytes-bytes.ensures.value) ∙ c.if-bytes-eq43.true) h.1;
+  answer = λ h. no_plus c.args.word.now (ap (λ w. get_or w 0 0) (sym c.as_bytes-bytes.ensures.value) ∙ c.if-bytes-eq43.true) h.1;
   refused = refl;
 }
 
 pub returns-in-Err : goal.returns-in-Err
 returns-in-Err c =
     let w = c.args.word.now in
-    let plain : without_leading_plus w ≡ w = without_leading_plus_none w (λ e. c.if-bytes-eq43.false (ap (λ v. get_or v 0 0) c.as-bytes-bytes.ensures.value ∙ e)) in
+    let plain : without_leading_plus w ≡ w = without_leading_plus_none w (λ e. c.if-bytes-eq43.false (ap (λ v. get_or v 0 0) c.as_bytes-bytes.ensures.value ∙ e)) in
     record {
       answer = λ h.
           let small : digits_value 16 w < 2 ^ 32 = omega (arith, digits_value-lt 16 w h.1.1, ap (λ n. 16 ^ n) h.0) in

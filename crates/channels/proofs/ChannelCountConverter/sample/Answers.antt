@@ -3,5 +3,5 @@ use Rattle.std.proofs.Common.{rules}
 use Rattle.source.proofs.Draws.{zero_bits}
 use Rattle.channels.proofs.ChannelCountConverter.sample.Goals as goal
 
-pub returns-in-default-2 : goal.returns-in-default-2
-returns-in-default-2 g c = search (rules, zero_bits)
+pub returns-in_default-2 : goal.returns-in_default-2
+returns-in_default-2 g c = search (rules, zero_bits)

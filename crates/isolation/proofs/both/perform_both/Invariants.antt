@@ -5,9 +5,9 @@ use Rattle.isolation.proofs.both.perform_both.Given as goal
 
 abbrev pub invariant-loop-call : goal.invariant-loop-call
 invariant-loop-call g l =
-    (vec_len l.of-first ≡ l.call-index)
-    × (length l.calls ≤ vec_capacity l.of-first)
-    × (vec_len l.of-second ≡ l.call-index)
-    × (length l.calls ≤ vec_capacity l.of-second)
-    × Answered g.P.Bank.lists l.calls l.call-index l.initial.first (vec_items l.of-first) l.first
-    × Answered g.Q.Bank.lists l.calls l.call-index l.initial.second (vec_items l.of-second) l.second
+    (vec_len l.of_first ≡ l.call-index)
+    × (length l.calls ≤ vec_capacity l.of_first)
+    × (vec_len l.of_second ≡ l.call-index)
+    × (length l.calls ≤ vec_capacity l.of_second)
+    × Answered g.P.Bank.lists l.calls l.call-index l.initial.first (vec_items l.of_first) l.first
+    × Answered g.Q.Bank.lists l.calls l.call-index l.initial.second (vec_items l.of_second) l.second

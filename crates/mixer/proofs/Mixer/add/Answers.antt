@@ -18,8 +18,8 @@ returns-then-number-count g c =
       bank = refl;
     }
 
-pub invariant-of-self : goal.invariant-of-self
-invariant-of-self g c =
+pub invariant_of-self : goal.invariant_of-self
+invariant_of-self g c =
     let x = c.args.self.now in
     let t = x.table in
     let i = c.args.number in
@@ -28,14 +28,14 @@ invariant-of-self g c =
       (
         ap length e.order ∙ length-set t.order t.added i ∙ x.order,
         (
-          omega (arith, e.added, c.if-added-lt-MOST-LISTS.true, c.added.ensures.answer),
+          omega (arith, e.added, c.if-added-lt-MOST_LISTS.true, c.added.ensures.answer),
           (
             λ k lt. elim (cases_eq k t.added) [
               | inl eq ↦ omega (
                 arith,
                 ap (λ (o : List ℕ). get_or o k 0) e.order,
                 ap (λ (n : ℕ). get_or (set t.order t.added i) n 0) eq,
-                get_or-set_same t.order t.added i 0 (omega (arith, x.order, c.if-added-lt-MOST-LISTS.true, c.added.ensures.answer)),
+                get_or-set_same t.order t.added i 0 (omega (arith, x.order, c.if-added-lt-MOST_LISTS.true, c.added.ensures.answer)),
                 c.if-number-count.false,
                 c.count.ensures.bound,
               )
@@ -47,8 +47,8 @@ invariant-of-self g c =
       ),
     )
 
-pub returns-then-added-lt-MOST-LISTS : goal.returns-then-added-lt-MOST-LISTS
-returns-then-added-lt-MOST-LISTS g c =
+pub returns-then-added-lt-MOST_LISTS : goal.returns-then-added-lt-MOST_LISTS
+returns-then-added-lt-MOST_LISTS g c =
     let x = c.args.self.now in
     let i = c.args.number in
     let e = c.enter.ensures in
@@ -59,15 +59,15 @@ returns-then-added-lt-MOST-LISTS g c =
             simp (lt-ltb i (length made) below, unnamed) refl,
             follows_added g.B.Bank.lists m made h i x f _ (omega (arith, x.channels.low, f.channels)) below unnamed
                 (omega (arith, c.if-number-count.false, c.count.ensures.bound, x.places))
-                (omega (arith, c.if-added-lt-MOST-LISTS.true, c.added.ensures.answer, x.order))
+                (omega (arith, c.if-added-lt-MOST_LISTS.true, c.added.ensures.answer, x.order))
                 refl refl refl e.places e.order e.added,
           );
       refused = λ no. absurd (true≢false no);
       bank = refl;
     }
 
-pub returns-else-added-lt-MOST-LISTS : goal.returns-else-added-lt-MOST-LISTS
-returns-else-added-lt-MOST-LISTS g c =
+pub returns-else-added-lt-MOST_LISTS : goal.returns-else-added-lt-MOST_LISTS
+returns-else-added-lt-MOST_LISTS g c =
     let x = c.args.self.now in
     let i = c.args.number in
     record {
@@ -78,7 +78,7 @@ returns-else-added-lt-MOST-LISTS g c =
             arith,
             room (length made) i h below unnamed,
             f.added,
-            c.if-added-lt-MOST-LISTS.false,
+            c.if-added-lt-MOST_LISTS.false,
             c.added.ensures.answer,
             c.count.ensures.bound,
             c.count.ensures.answer,
@@ -89,14 +89,14 @@ returns-else-added-lt-MOST-LISTS g c =
       bank = refl;
     }
 
-pub returns-in-default : goal.returns-in-default
-returns-in-default g c =
+pub returns-in_default : goal.returns-in_default
+returns-in_default g c =
     let x = c.args.self.now in
     let i = c.args.number in
     record {
       law = λ m made h f.
           let below : i < length made = omega (arith, c.if-number-count.false, c.count.ensures.answer, f.count) in
-          let named : names i h ≡ true = taken_named g.B.Bank.lists m made h i x f below (λ e. c.in-default.not-Idle (c.state.ensures.answer ∙ e)) in (
+          let named : names i h ≡ true = taken_named g.B.Bank.lists m made h i x f below (λ e. c.in_default.not-Idle (c.state.ensures.answer ∙ e)) in (
             simp (lt-ltb i (length made) below, named) refl,
             follows_refused g.B.Bank.lists m made h i x f (simp (lt-ltb i (length made) below, named) refl),
           );

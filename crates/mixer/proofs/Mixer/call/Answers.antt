@@ -6,12 +6,12 @@ pub returns-in-Add : goal.returns-in-Add
 returns-in-Add g c = record {
   law = λ m made h f.
       let r = c.add.ensures.law m made h f in
-      simp c.in-Add.is (c.reply-to-add.ensures.answer ∙ r.0, r.1);
+      simp c.in-Add.is (c.reply_to_add.ensures.answer ∙ r.0, r.1);
 }
 
 pub returns-in-Next : goal.returns-in-Next
 returns-in-Next g c = record {
   law = λ m made h f.
       let r = c.next.ensures.law m made h f in
-      simp c.in-Next.is (c.reply-to-next.ensures.answer ∙ r.0, r.1);
+      simp c.in-Next.is (c.reply_to_next.ensures.answer ∙ r.0, r.1);
 }

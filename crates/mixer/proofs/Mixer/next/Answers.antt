@@ -25,7 +25,7 @@ loop-k-preserved g c =
           let r = c.loop-k.invariant.2 m made h f in
           let lt : k < length (accepted (length made) h) = omega (arith, c.loop-k-test.true, c.added-added.ensures.answer, f.added) in
           let is : i ≡ (get_or (accepted (length made) h) k nobody).number = c.number-number.ensures.answer ∙ r.1.order k lt in (
-            c.plus-term-sum.ensures.answer ∙ ap (λ s. plus s c.turn-term.result) r.0
+            c.plus_term-sum.ensures.answer ∙ ap (λ s. plus s c.turn-term.result) r.0
                 ∙ sum_more m made h k c.turn-term.result lt (ap option_to_list e.answer ∙ gave_term lists m made h k i x y t wide lt is r.1),
             partway_more lists m made h k i x y t wide lt is r.1,
           ),
@@ -40,7 +40,7 @@ returns g c =
           let all : length (accepted (length made) h) ≤ c.loop-k.k = omega (arith, c.loop-k-test.false, c.added-added.ensures.answer, f.added) in (
             ap drawn r.0 ∙ sum_all m made h c.loop-k.k all,
             follows_next g.B.Bank.lists m made h c.loop-k.k c.loop-k.self _ all r.1 refl refl refl
-                (c.phase-after-phase.ensures.answer (answers h) (r.1.phase ∙ ap (λ (n : ℕ). answers h % n) (sym r.1.channels))
+                (c.phase_after-phase.ensures.answer (answers h) (r.1.phase ∙ ap (λ (n : ℕ). answers h % n) (sym r.1.channels))
                 ∙ ap (λ (n : ℕ). suc (answers h) % n) r.1.channels),
           );
       same = c.loop-k.invariant.1 ∙ ap g.B.Bank.shape c.start.ensures.bank;

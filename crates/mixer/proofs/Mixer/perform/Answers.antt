@@ -5,13 +5,13 @@ use Rattle.law.specs.declared.Reply.{Reply}
 use Rattle.mixer.proofs.Performs.{Answered, answered_none, answered_more, answered_all}
 use Rattle.mixer.proofs.Mixer.perform.Goals as goal
 
-pub push-reserved-requires : goal.push-reserved-requires
-push-reserved-requires g c = omega (arith, c.loop-call.invariant.0, c.loop-call.invariant.1, c.loop-call-test.true)
+pub push_reserved-requires : goal.push_reserved-requires
+push_reserved-requires g c = omega (arith, c.loop-call.invariant.0, c.loop-call.invariant.1, c.loop-call-test.true)
 
 pub loop-call-init : goal.loop-call-init
 loop-call-init g c =
-    let e = c.in-ok-replies.ensures in
-    (e.len, e.capacity, answered_none g.B.Bank.lists c.args.calls.now c.args.self.now (vec_items c.in-ok-replies.replies) e.items)
+    let e = c.in_ok-replies.ensures in
+    (e.len, e.capacity, answered_none g.B.Bank.lists c.args.calls.now c.args.self.now (vec_items c.in_ok-replies.replies) e.items)
 
 pub loop-call-preserved : goal.loop-call-preserved
 loop-call-preserved g c =
@@ -21,7 +21,7 @@ loop-call-preserved g c =
     let x = c.args.self.now in
     let z = c.call.new.self in
     let v = c.loop-call.invariant in
-    let e = c.push-reserved.ensures in (
+    let e = c.push_reserved.ensures in (
       omega (arith, e.len, v.0),
       omega (arith, e.capacity, v.1),
       subst (λ (rs : List Reply). Answered lists cs (i + 1) x rs z) (sym e.items)

@@ -10,8 +10,8 @@ use Rattle.mixer.specs.Places.{idle, begun, started}
 use Rattle.mixer.proofs.Stepping.{opened}
 use Rattle.mixer.proofs.Mixer.start.Goals as goal
 
-pub invariant-of-self : goal.invariant-of-self
-invariant-of-self g c =
+pub invariant_of-self : goal.invariant_of-self
+invariant_of-self g c =
     let x = c.args.self.now in
     let e = c.start.ensures in (
       ap length e.places ∙ length-map x.table.places begun ∙ x.places,
@@ -24,8 +24,8 @@ invariant-of-self g c =
       ),
     )
 
-pub returns-then-self-eq-FRAME-START : goal.returns-then-self-eq-FRAME-START
-returns-then-self-eq-FRAME-START g c =
+pub returns-then-self-eq-FRAME_START : goal.returns-then-self-eq-FRAME_START
+returns-then-self-eq-FRAME_START g c =
     let x = c.args.self.now in
     let e = c.start.ensures in
     record {
@@ -33,19 +33,19 @@ returns-then-self-eq-FRAME-START g c =
           opened g.B.Bank.lists m (omega (arith, x.channels.low, f.channels)) made h x _ f refl refl refl e.order e.added
           (λ i. ap (λ (ps : List Place). (get_or ps i idle).state) e.places ∙ ap (λ (p : Place). p.state) (get_or-map begun x.table.places i idle)
           ∙ sym (ap (λ (b : Bool). cond b (started (get_or x.table.places i idle).state) (get_or x.table.places i idle).state)
-          (eq-eqb (answers h % m) 0 (sym f.phase ∙ c.if-self-eq-FRAME-START.true))));
+          (eq-eqb (answers h % m) 0 (sym f.phase ∙ c.if-self-eq-FRAME_START.true))));
       added = e.added;
       bank = refl;
     }
 
-pub returns-else-self-eq-FRAME-START : goal.returns-else-self-eq-FRAME-START
-returns-else-self-eq-FRAME-START g c =
+pub returns-else-self-eq-FRAME_START : goal.returns-else-self-eq-FRAME_START
+returns-else-self-eq-FRAME_START g c =
     let x = c.args.self.now in
     record {
       law = λ m made h f.
           opened g.B.Bank.lists m (omega (arith, x.channels.low, f.channels)) made h x x f refl refl refl refl refl
           (λ i. sym (ap (λ (b : Bool). cond b (started (get_or x.table.places i idle).state) (get_or x.table.places i idle).state)
-          (ne_eqb (answers h % m) 0 (λ z. c.if-self-eq-FRAME-START.false (f.phase ∙ z)))));
+          (ne_eqb (answers h % m) 0 (λ z. c.if-self-eq-FRAME_START.false (f.phase ∙ z)))));
       added = refl;
       bank = refl;
     }

@@ -20,8 +20,8 @@ returns g c =
     let a = c.args in
     let p = c.new-parts.ensures in
     let q = c.new-parts.result in
-    let visited = c.join-all-bank.ensures.law in
-    let after = c.join-all-bank.new.visitor in
+    let visited = c.join_all-bank.ensures.law in
+    let after = c.join_all-bank.new.visitor in
     let cut : parts_of of q.format q.each q.left q.cells.now ≡ parts_of of a.format a.each a.sources a.cells.now =
     ap (λ (f : Format). parts_of of f q.each q.left q.cells.now) p.format
     ∙ ap (λ (n : ℕ). parts_of of a.format n q.left q.cells.now) p.each

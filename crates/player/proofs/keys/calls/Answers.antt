@@ -5,7 +5,7 @@ use Rattle.law.specs.declared.Call.{Call}
 use Rattle.law.proofs.Sums.{joined_more}
 use Rattle.player.specs.Keys.{asked, all_asked}
 use Rattle.player.proofs.keys.calls.Goals as goal
-use Rattle.player.proofs.keys.calls.Goals.{in-Some+in-ok-push, in-default}
+use Rattle.player.proofs.keys.calls.Goals.{in-Some+in_ok-push, in_default}
 
 pub loop-key-preserved : goal.loop-key-preserved
 loop-key-preserved c =
@@ -14,13 +14,13 @@ loop-key-preserved c =
     let more = joined_more asked ks i 0 c.loop-key-test.true in
     let none = append-nil (all_asked (take i ks)) in
     elim c.match-call.branch [
-      | in-Some+in-ok-push w ↦
-          ap vec_items w.all-is ∙ w.in-ok-push.ensures.items
+      | in-Some+in_ok-push w ↦
+          ap vec_items w.all-is ∙ w.in_ok-push.ensures.items
           ∙ ap (λ (cs : List Call). cs ++ (w.in-Some.call ∷ [])) c.loop-key.invariant
           ∙ ap (λ (cs : List Call). all_asked (take i ks) ++ cs) w.in-Some.ensures.answer ∙ sym more
-      | in-default w ↦
+      | in_default w ↦
           ap vec_items w.all-is ∙ c.loop-key.invariant ∙ sym none
-          ∙ ap (λ (cs : List Call). all_asked (take i ks) ++ cs) w.in-default.ensures.answer ∙ sym more
+          ∙ ap (λ (cs : List Call). all_asked (take i ks) ++ cs) w.in_default.ensures.answer ∙ sym more
     ]
 
 pub returns : goal.returns

@@ -3,7 +3,7 @@ use Rattle.std.proofs.Common.{◌≡◌, ◌+◌, ◌<◌, sym, ap, ◌∙◌, a
 use Rattle.replay.specs.Left.{all_left}
 use Rattle.replay.proofs.Left.{one_if, drawn-left}
 use Rattle.replay.proofs.rounds.write_round.Goals as goal
-use Rattle.replay.proofs.rounds.write_round.Goals.{in-Some+in-Some-get-mut+in-ok-push, in-Some+in-default-get-mut, in-default}
+use Rattle.replay.proofs.rounds.write_round.Goals.{in-Some+in-Some-get_mut+in_ok-push, in-Some+in_default-get_mut, in_default}
 
 pub loop-i-preserved : goal.loop-i-preserved
 loop-i-preserved g c =
@@ -15,8 +15,8 @@ loop-i-preserved g c =
     let came : one_if c.draw.result ≡ 1 → left < before = λ one. omega (arith, c.loop-i.invariant.0, e, one) in (
       omega (arith, c.loop-i.invariant.0, e),
       λ d. elim c.match-draw.branch [
-        | in-Some+in-Some-get-mut+in-ok-push w ↦ came (ap one_if w.in-Some.is)
-        | in-Some+in-default-get-mut w ↦ came (ap one_if w.in-Some.is)
-        | in-default w ↦ omega (arith, c.loop-i.invariant.1 (sym w.drawn-is ∙ d), e)
+        | in-Some+in-Some-get_mut+in_ok-push w ↦ came (ap one_if w.in-Some.is)
+        | in-Some+in_default-get_mut w ↦ came (ap one_if w.in-Some.is)
+        | in_default w ↦ omega (arith, c.loop-i.invariant.1 (sym w.drawn-is ∙ d), e)
       ],
     )

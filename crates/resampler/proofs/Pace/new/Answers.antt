@@ -4,29 +4,26 @@ use native.Mathlib.Nat.{pos_of_dvd_of_pos}
 use Rattle.rates.proofs.Divisors.{reduced_low}
 use Rattle.resampler.proofs.Pace.new.Goals as goal
 
-pub nonzero-div-numerator : goal.nonzero-div-numerator
-nonzero-div-numerator c = pos_of_dvd_of_pos c.gcd-divisor.ensures.divides.0 c.get-from-rate.ensures.low
+pub nonzero_div-numerator : goal.nonzero_div-numerator
+nonzero_div-numerator c = pos_of_dvd_of_pos c.gcd-divisor.ensures.divides.0 c.get-from_rate.ensures.low
 
-pub nonzero-div-denominator : goal.nonzero-div-denominator
-nonzero-div-denominator c = pos_of_dvd_of_pos c.gcd-divisor.ensures.divides.0 c.get-from-rate.ensures.low
+pub nonzero_div-denominator : goal.nonzero_div-denominator
+nonzero_div-denominator c = pos_of_dvd_of_pos c.gcd-divisor.ensures.divides.0 c.get-from_rate.ensures.low
 
-pub nonzero-div-result : goal.nonzero-div-result
-nonzero-div-result c = reduced_low c.get-to-rate.result c.gcd-divisor.result c.get-to-rate.ensures.low c.gcd-divisor.ensures.divides.1
+pub nonzero_div-result : goal.nonzero_div-result
+nonzero_div-result c = reduced_low c.get-to_rate.result c.gcd-divisor.result c.get-to_rate.ensures.low c.gcd-divisor.ensures.divides.1
 
-pub nonzero-rem-result : goal.nonzero-rem-result
-nonzero-rem-result c = reduced_low c.get-to-rate.result c.gcd-divisor.result c.get-to-rate.ensures.low c.gcd-divisor.ensures.divides.1
+pub nonzero_rem-result : goal.nonzero_rem-result
+nonzero_rem-result c = reduced_low c.get-to_rate.result c.gcd-divisor.result c.get-to_rate.ensures.low c.gcd-divisor.ensures.divides.1
 
-pub invariant-of-result : goal.invariant-of-result
-invariant-of-result c =
-    let a = c.get-from-rate.result in
-    let b = c.get-to-rate.result in
+pub invariant_of-result : goal.invariant_of-result
+invariant_of-result c =
+    let a = c.get-from_rate.result in
+    let b = c.get-to_rate.result in
     let d = c.gcd-divisor.result in
     let x = a / d in
     let y = b / d in
-    let low : 0 < y = reduced_low b d c.get-to-rate.ensures.low c.gcd-divisor.ensures.divides.1 in (
-      reduced_low a d c.get-from-rate.ensures.low c.gcd-divisor.ensures.divides.0,
-      (omega (arith, div-le_self a d), (low, (omega (arith, div-le_self b d), (omega (arith, div-add-mod' x y), (mod-lt x low, tt))))),
-    )
+    let low : 0 < y = reduced_low b d c.get-to_rate.ensures.low c.gcd-divisor.ensures.divides.1 in record { from_low = reduced_low a d c.get-from_rate.ensures.low c.gcd-divisor.ensures.divides.0; from_high = omega (arith, div-le_self a d); to_low = low; to_high = omega (arith, div-le_self b d); divided = omega (arith, div-add-mod' x y); below = mod-lt x low }
 
 pub returns : goal.returns
 returns c = record { from = cc; to = cc }

@@ -6,6 +6,6 @@ use Rattle.resampler.proofs.Resampler.into_inner.Goals as goal
 pub returns : goal.returns
 returns g c =
     record {
-      answer = c.into-inner.ensures.answer;
-      law = λ xs m d. ap g.I.Samples.samples c.into-inner.ensures.answer ∙ drawn-left g.I.Samples.samples xs m c.args.self d;
+      answer = c.into_inner.ensures.answer;
+      law = λ xs m d. ap g.I.Samples.samples c.into_inner.ensures.answer ∙ drawn-left g.I.Samples.samples xs m c.args.self d;
     }

@@ -25,17 +25,17 @@ returns g c =
     let t = c.args.format.channels.count in
     let rate = c.args.format.rate.rate in
     let k = piece_length (span_len_now m) in
-    let cut : c.match-current-span-len.n ≡ k = elim c.match-current-span-len.branch [
-      | in-Some w ↦ w.n-is ∙ ap Some w.min.ensures ∙ ap piece_length (sym w.in-Some.is ∙ c.current-span-len.ensures.answer)
-      | in-None w ↦ w.n-is ∙ ap piece_length (sym w.in-None.is ∙ c.current-span-len.ensures.answer)
+    let cut : c.match-current_span_len.n ≡ k = elim c.match-current_span_len.branch [
+      | in-Some w ↦ w.n-is ∙ ap Some w.min.ensures ∙ ap piece_length (sym w.in-Some.is ∙ c.current_span_len.ensures.answer)
+      | in-None w ↦ w.n-is ∙ ap piece_length (sym w.in-None.is ∙ c.current_span_len.ensures.answer)
     ] in
     let piece : piece_left of c.new.result ≡ taken k (samples_of m) = ap₂ (λ n s. taken n (samples_of (of s))) (c.new.ensures.n ∙ cut) c.new.ensures.iter in
     let left : chain_left of c.new-2.result ≡ in_format t rate f (taken k (samples_of m)) =
     c.new-2.ensures.answer
     ∙ ap (channels_converted c.channels-channels.result.count t) c.new-piece.ensures.answer
-    ∙ ap (λ xs. channels_converted c.channels-channels.result.count t (rate_converted c.sample-rate-rate.result.rate rate c.channels-channels.result.count xs)) piece
+    ∙ ap (λ xs. channels_converted c.channels-channels.result.count t (rate_converted c.sample_rate-rate.result.rate rate c.channels-channels.result.count xs)) piece
     ∙ ap₂ (λ (a : ChannelCount) (b : SampleRate). channels_converted a.count t (rate_converted b.rate rate a.count (taken k (samples_of m))))
-    c.channels-channels.ensures.answer c.sample-rate-rate.ensures.answer in
+    c.channels-channels.ensures.answer c.sample_rate-rate.ensures.answer in
     let behind-it : chain_beyond of c.new-2.result ≡ behind k m =
     ap (λ (p : SampleRateConverter (Take g.row.S.Denot)). behind (inner p).n (of (inner p).iter)) c.new-2.ensures.same
     ∙ c.new-piece.ensures.same

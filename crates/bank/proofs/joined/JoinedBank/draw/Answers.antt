@@ -6,10 +6,10 @@ use Rattle.uniform.specs.Streams.{uniform_meaning, left_of}
 use Rattle.bank.specs.Banks.{most_lists, with_list, drawn_at}
 use Rattle.bank.proofs.Banking.{Other, own_at, own_drawn, other_at, other_drawn, own_streams, stream_drawn}
 use Rattle.bank.proofs.joined.JoinedBank.draw.Goals as goal
-use Rattle.bank.proofs.joined.JoinedBank.draw.Goals.{else-i-n-via-then-i-n+else-n-lt-MOST-LISTS, else-i-n-via-else-i-n}
+use Rattle.bank.proofs.joined.JoinedBank.draw.Goals.{else-i-n-via-then-i-n+else-n-lt-MOST_LISTS, else-i-n-via-else-i-n}
 
-pub returns-then-n-lt-MOST-LISTS : goal.returns-then-n-lt-MOST-LISTS
-returns-then-n-lt-MOST-LISTS g c =
+pub returns-then-n-lt-MOST_LISTS : goal.returns-then-n-lt-MOST_LISTS
+returns-then-n-lt-MOST_LISTS g c =
     let j = c.args.self.now in
     let ls = g.B.Bank.lists j.bank in
     let of = g.S.Source.meaning in
@@ -30,7 +30,7 @@ returns-else-i-n g c =
     let ls = g.B.Bank.lists j.bank in
     let l = samples_of (uniform_meaning g.S.Source.meaning j.last) in
     let o : Other c.args.i ls = elim c.else-i-n.branch [
-      | else-i-n-via-then-i-n+else-n-lt-MOST-LISTS w ↦ inr (omega (arith, w.if-n-lt-MOST-LISTS.false))
+      | else-i-n-via-then-i-n+else-n-lt-MOST_LISTS w ↦ inr (omega (arith, w.if-n-lt-MOST_LISTS.false))
       | else-i-n-via-else-i-n w ↦ inl (λ e. w.if-i-n.false (e ∙ sym c.count-n.ensures.answer))
     ] in
     record {

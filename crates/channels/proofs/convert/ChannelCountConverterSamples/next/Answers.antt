@@ -7,14 +7,14 @@ use Rattle.channels.proofs.Turns.{Turn, turn}
 use Rattle.channels.proofs.Uses.{place_on, use_on, use_none}
 use Rattle.channels.proofs.convert.ChannelCountConverterSamples.next.Goals as goal
 
-pub returns-then-is-some : goal.returns-then-is-some
-returns-then-is-some g c =
+pub returns-then-is_some : goal.returns-then-is_some
+returns-then-is_some g c =
     let s = c.args.self.now in
     let r = c.sample-result.result in
     let ys = g.I.Samples.samples s.input in
     let T : Turn s.from.count s.to.count s.next_output_sample_pos s.sample_repeat ys =
     turn s.from.count s.to.count s.next_output_sample_pos s.sample_repeat ys s.from.low s.place in
-    let came : is_some r ≡ true = sym c.if-is-some.ensures in
+    let came : is_some r ≡ true = sym c.if-is_some.ensures in
     let goes = T.goes_on (sym (ap is_some c.sample-result.ensures.answer) ∙ came) in
     let one : cond {A = ℕ} (is_some r) 1 0 ≡ 1 = ap (λ b. cond {A = ℕ} b 1 0) came in
     record {
@@ -34,14 +34,14 @@ returns-then-is-some g c =
           };
     }
 
-pub returns-else-is-some : goal.returns-else-is-some
-returns-else-is-some g c =
+pub returns-else-is_some : goal.returns-else-is_some
+returns-else-is_some g c =
     let s = c.args.self.now in
     let r = c.sample-result.result in
     let ys = g.I.Samples.samples s.input in
     let T : Turn s.from.count s.to.count s.next_output_sample_pos s.sample_repeat ys =
     turn s.from.count s.to.count s.next_output_sample_pos s.sample_repeat ys s.from.low s.place in
-    let came : is_some r ≡ false = sym c.if-is-some.ensures in
+    let came : is_some r ≡ false = sym c.if-is_some.ensures in
     let no : is_some (sample_at s.from.count s.next_output_sample_pos s.sample_repeat ys) ≡ false = sym (ap is_some c.sample-result.ensures.answer) ∙ came in
     let ends = T.ends no in
     let kept = use_none s.from.count s.next_output_sample_pos s.sample_repeat ys no in

@@ -7,7 +7,7 @@ use Rattle.frames.specs.declared.frame.Frame.{Frame}
 use Rattle.frames.proofs.Heads.{Here, here, over}
 use Rattle.frames.proofs.Shifts.{taken_on, kept_on, kept_past}
 use Rattle.frames.proofs.frame.Frame.shift.Goals as goal
-use Rattle.frames.proofs.frame.Frame.shift.Goals.{in-Some, in-default}
+use Rattle.frames.proofs.frame.Frame.shift.Goals.{in-Some, in_default}
 
 pub loop-i-preserved : goal.loop-i-preserved
 loop-i-preserved g c =
@@ -39,8 +39,8 @@ loop-i-preserved g c =
             gone,
             c.next.ensures.same ∙ v.7,
           )
-      | in-default w ↦
-          let e : length xs ≤ i = over xs i (sym w.in-default.is ∙ came) in
+      | in_default w ↦
+          let e : length xs ≤ i = over xs i (sym w.in_default.is ∙ came) in
           let cells : c.match-next.next.samples ≡ b = ap (λ (f : Frame). f.samples) w.next-is in (
             length-set a i y ∙ v.0,
             ap length cells ∙ v.1,

@@ -6,14 +6,14 @@ use Rattle.frames.specs.Frames.{framed}
 use Rattle.frames.proofs.Walks.{leapt, leapt_short, read_ended}
 use Rattle.frames.proofs.window.Window.leap.Goals as goal
 
-pub invariant-of-self-else-len-count : goal.invariant-of-self-else-len-count
-invariant-of-self-else-len-count g c =
+pub invariant_of-self-else-len-count : goal.invariant_of-self-else-len-count
+invariant_of-self-else-len-count g c =
     let w = c.args.self.now in
     let n = w.channels.count in
     let xs = g.I.Samples.samples c.discard.new.input in
     let a : framed c.refill.new.self ≡ take n xs = c.refill.ensures.filled in
     let b : framed c.refill-else-len-count.new.self ≡ take n (drop n xs) = c.refill-else-len-count.ensures.filled ∙ ap (take n) c.refill.ensures.after in
-    (subst₂ (Lined n) (sym a) (sym b) (read_lined n xs), tt)
+    record { lined = subst₂ (Lined n) (sym a) (sym b) (read_lined n xs) }
 
 pub returns-then-len-count : goal.returns-then-len-count
 returns-then-len-count g c =

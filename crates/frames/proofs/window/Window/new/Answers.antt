@@ -6,13 +6,13 @@ use Rattle.frames.specs.Frames.{framed}
 use Rattle.frames.proofs.Walks.{read_ended}
 use Rattle.frames.proofs.window.Window.new.Goals as goal
 
-pub invariant-of-result : goal.invariant-of-result
-invariant-of-result g c =
+pub invariant_of-result : goal.invariant_of-result
+invariant_of-result g c =
     let n = c.args.channels.count in
     let xs = g.I.Samples.samples c.args.input in
     let a : framed c.refill.new.self ≡ take n xs = c.refill.ensures.filled in
     let b : framed c.refill-2.new.self ≡ take n (drop n xs) = c.refill-2.ensures.filled ∙ ap (take n) c.refill.ensures.after in
-    (subst₂ (Lined n) (sym a) (sym b) (read_lined n xs), tt)
+    record { lined = subst₂ (Lined n) (sym a) (sym b) (read_lined n xs) }
 
 pub returns : goal.returns
 returns g c =

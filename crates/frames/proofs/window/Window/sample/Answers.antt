@@ -13,27 +13,27 @@ use Rattle.frames.proofs.window.Window.sample.Goals as goal
 at_both : (n to : Float) (cur nxt : List Float) (i : ℕ) → 0 < length nxt → first (drop i (both (lerp_by n to) cur nxt)) ≡ first (drop i (shown_by n to cur nxt))
 at_both n to cur nxt i h = ap (λ l. first (drop i l)) (sym (shown-both n to cur nxt h))
 
-pub returns-in-err-first : goal.returns-in-err-first
-returns-in-err-first g c =
+pub returns-in_err-first : goal.returns-in_err-first
+returns-in_err-first g c =
     let cur = framed c.args.self.now.current in
     let nxt = framed c.args.self.now.next in
     let n = c.args.numerator in
     let to = c.args.denominator in
     let i = c.args.i in
     let h : 0 < length nxt = omega arith in
-    let none = over cur i c.in-err-first.ensures.answer in
-    record { answer = c.from-residual.ensures ∙ both_none (lerp_by n to) cur nxt i (omega arith) ∙ at_both n to cur nxt i h }
+    let none = over cur i c.in_err-first.ensures.answer in
+    record { answer = c.from_residual.ensures ∙ both_none (lerp_by n to) cur nxt i (omega arith) ∙ at_both n to cur nxt i h }
 
-pub returns-in-err-second : goal.returns-in-err-second
-returns-in-err-second g c =
+pub returns-in_err-second : goal.returns-in_err-second
+returns-in_err-second g c =
     let cur = framed c.args.self.now.current in
     let nxt = framed c.args.self.now.next in
     let n = c.args.numerator in
     let to = c.args.denominator in
     let i = c.args.i in
     let h : 0 < length nxt = omega arith in
-    let none = over nxt i c.in-err-second.ensures.answer in
-    record { answer = c.from-residual-in-err-second.ensures ∙ both_none (lerp_by n to) cur nxt i (omega arith) ∙ at_both n to cur nxt i h }
+    let none = over nxt i c.in_err-second.ensures.answer in
+    record { answer = c.from_residual-in_err-second.ensures ∙ both_none (lerp_by n to) cur nxt i (omega arith) ∙ at_both n to cur nxt i h }
 
 pub returns : goal.returns
 returns g c =
@@ -43,11 +43,11 @@ returns g c =
     let to = c.args.denominator in
     let i = c.args.i in
     let h : 0 < length nxt = omega arith in
-    let a = c.in-ok-first.ensures.answer in
-    let b = c.in-ok-second.ensures.answer in
+    let a = c.in_ok-first.ensures.answer in
+    let b = c.in_ok-second.ensures.answer in
     record {
       answer =
           ap Some c.lerp.ensures.answer
-          ∙ both_at (lerp_by n to) cur nxt i c.in-ok-first.first c.in-ok-second.second a b
+          ∙ both_at (lerp_by n to) cur nxt i c.in_ok-first.first c.in_ok-second.second a b
           ∙ at_both n to cur nxt i h;
     }

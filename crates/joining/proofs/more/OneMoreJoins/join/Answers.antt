@@ -9,10 +9,10 @@ pub returns-in-None : goal.returns-in-None
 returns-in-None g c =
     let f = g.B.Bank.shape c.args.bank in
     let ls = g.B.Bank.lists c.args.bank in
-    let e = none_first _ (ap (spans_of g.Q.Item.Source.meaning) (sym c.in-None.is) ∙ c.next-source.ensures.answer) in
+    let e = none_first _ (ap (spans_of g.Q.Item.Source.meaning) (sym c.in-None.is) ∙ c.next_source.ensures.answer) in
     record {
       law = rw (e, with_none f ls) c.visit.ensures.after;
-      after = c.next-source.ensures.after ∙ ap rest e ∙ sym (ap (drop (suc g.N.Joins.most)) e);
+      after = c.next_source.ensures.after ∙ ap rest e ∙ sym (ap (drop (suc g.N.Joins.most)) e);
     }
 
 pub returns-in-Some : goal.returns-in-Some
@@ -22,11 +22,11 @@ returns-in-Some g c =
     let n = g.N.Joins.most in
     let ms = g.Q.Queue.waiting c.args.queue.now in
     let m = (g.Q.Item.Source.meaning c.in-Some.source).spans in
-    let e : ms ≡ m ∷ rest ms = some_first ms m (ap (spans_of g.Q.Item.Source.meaning) (sym c.in-Some.is) ∙ c.next-source.ensures.answer) in
+    let e : ms ≡ m ∷ rest ms = some_first ms m (ap (spans_of g.Q.Item.Source.meaning) (sym c.in-Some.is) ∙ c.next_source.ensures.answer) in
     record {
       law =
           joined_first (λ s l. g.V.Visitor.visited s l c.args.visitor.now c.join-joined.new.visitor) f _ ls _ m n ms _
-          (ap g.B.Bank.shape c.new.ensures.below) c.new.ensures.answer e c.next-source.ensures.after
+          (ap g.B.Bank.shape c.new.ensures.below) c.new.ensures.answer e c.next_source.ensures.after
           c.join-joined.ensures.law;
-      after = c.join-joined.ensures.after ∙ ap (drop n) c.next-source.ensures.after ∙ sym (ap (drop (suc n)) e);
+      after = c.join-joined.ensures.after ∙ ap (drop n) c.next_source.ensures.after ∙ sym (ap (drop (suc n)) e);
     }

@@ -8,7 +8,7 @@ pub returns : goal.returns
 returns g c =
     let m = (g.B.Bank.shape c.args.bank).channels.count in
     let ls = g.B.Bank.lists c.args.bank in
-    let added = c.add-all.ensures.law m ls c.new-mixer.ensures.law in
+    let added = c.add_all.ensures.law m ls c.new-mixer.ensures.law in
     record {
-      after = (refl, c.drain-self.ensures.law m ls (subst (λ n. Follows g.B.Bank.lists m ls (adds n) c.add-all.new.mixer) c.count-count.ensures.answer added));
+      after = (refl, c.drain-self.ensures.law m ls (subst (λ n. Follows g.B.Bank.lists m ls (adds n) c.add_all.new.mixer) c.count-count.ensures.answer added));
     }

@@ -9,6 +9,6 @@ returns g c =
     let m = (g.B.Bank.shape c.args.bank).channels.count in
     let ls = g.B.Bank.lists c.args.bank in
     record {
-      after = subst (λ cs. IfOk c.perform.result (λ rs. Told m ls [] cs (vec_items rs))) c.as-slice.ensures.value
+      after = subst (λ cs. IfOk c.perform.result (λ rs. Told m ls [] cs (vec_items rs))) c.as_slice.ensures.value
           (told_of g.B.Bank.lists _ vec_items _ _ _ c.perform.result c.perform.ensures.law m ls [] c.new-mixer.ensures.law);
     }

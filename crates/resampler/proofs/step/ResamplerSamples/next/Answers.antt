@@ -13,7 +13,7 @@ use Rattle.resampler.specs.Resamplers.{remaining, following, sample_here}
 use Rattle.resampler.proofs.Gives.{first_front, rest_front, held_on, held_end, shown-within, shown_none}
 use Rattle.resampler.proofs.Draws.{walk_on, walk_next}
 use Rattle.resampler.proofs.step.ResamplerSamples.next.Goals as goal
-use Rattle.resampler.proofs.step.ResamplerSamples.next.Goals.{then-not-is-last+in-default-sample, else-not-is-last}
+use Rattle.resampler.proofs.step.ResamplerSamples.next.Goals.{then-not-is_last+in_default-sample, else-not-is_last}
 
 module _ {I : Type 0} (of : I → List Float) (s : Resampler I) where
   -- what follows the output frame
@@ -42,8 +42,8 @@ some≢none p = let z : ◌≡◌ {A = ℕ} 0 1 = cc in omega arith
 more : (xs : List Float) → eqb (length xs) 0 ≡ false → 0 < length xs
 more xs e = let ne = eqb-false (length xs) 0 e in omega arith
 
-pub overflow-add-self : goal.overflow-add-self
-overflow-add-self g c =
+pub overflow_add-self : goal.overflow_add-self
+overflow_add-self g c =
     let s = c.args.self.now in
     let w = s.window in
     let h = inside g.I.Samples.samples s c.in-Some.x c.in-Some.ensures.answer in
@@ -76,8 +76,8 @@ returns-in-Some-sample g c =
     let x = c.in-Some-sample.x in
     let h = c.in-Some-sample.ensures.answer in
     let l = showing t.n t.pace.to t.window in
-    let o : length (showing s.n s.pace.to s.window) ≤ s.at = over (showing s.n s.pace.to s.window) s.at c.in-default.ensures.answer in
-    let k : 0 < length (framed s.window.next) = more (framed s.window.next) (sym c.if-not-is-last.ensures.answer) in
+    let o : length (showing s.n s.pace.to s.window) ≤ s.at = over (showing s.n s.pace.to s.window) s.at c.in_default.ensures.answer in
+    let k : 0 < length (framed s.window.next) = more (framed s.window.next) (sym c.if-not-is_last.ensures.answer) in
     let e : remaining of t ≡ remaining of s = b.after ∙ sym (past of s o k) in
     record {
       answer = first_front l (behind-shown of t) t.at x h ∙ ap first e;
@@ -105,25 +105,25 @@ returns g c =
     let s = c.args.self.now in
     let of = g.I.Samples.samples in
     let beyond = g.I.Samples.beyond in
-    let h : length (showing s.n s.pace.to s.window) ≤ s.at = over (showing s.n s.pace.to s.window) s.at c.in-default.ensures.answer in
-    let t = c.if-not-is-last.self in
+    let h : length (showing s.n s.pace.to s.window) ≤ s.at = over (showing s.n s.pace.to s.window) s.at c.in_default.ensures.answer in
+    let t = c.if-not-is_last.self in
     let u = c.exhaust.new.self in
     let cur : framed u.current ≡ framed t.window.current = ap framed c.exhaust.ensures.frames.0 in
     let nxt : framed u.next ≡ framed t.window.next = ap framed c.exhaust.ensures.frames.1 in
     let o : Over of beyond s t =
-    elim c.if-not-is-last.branch [
-      | then-not-is-last+in-default-sample v ↦
+    elim c.if-not-is_last.branch [
+      | then-not-is_last+in_default-sample v ↦
           let b = v.begin.new.self in
           let l = showing b.n b.pace.to b.window in
-          let k : 0 < length (framed s.window.next) = more (framed s.window.next) (sym v.if-not-is-last.ensures.answer) in
+          let k : 0 < length (framed s.window.next) = more (framed s.window.next) (sym v.if-not-is_last.ensures.answer) in
           let e : remaining of b ≡ remaining of s = v.begin.ensures.after ∙ sym (past of s h k) in
-          let y : length l ≤ b.at = over l b.at v.in-default-sample.ensures.answer in
+          let y : length l ≤ b.at = over l b.at v.in_default-sample.ensures.answer in
           let z : length l ≡ 0 = omega (arith, v.begin.ensures.at) in
           let x : length (framed b.window.next) ≡ 0 =
           shown_none b.window.channels.count b.n b.pace.to (framed b.window.current) (framed b.window.next) b.window.lined z in
           subst (Over of beyond s) (sym v.self-is) (y, x, sym e ∙ ended of b y x, v.begin.ensures.same, v.begin.ensures.pace, v.begin.ensures.channels)
-      | else-not-is-last v ↦
-          let x : length (framed s.window.next) ≡ 0 = eqb-true (length (framed s.window.next)) 0 (sym v.if-not-is-last.ensures.answer) in
+      | else-not-is_last v ↦
+          let x : length (framed s.window.next) ≡ 0 = eqb-true (length (framed s.window.next)) 0 (sym v.if-not-is_last.ensures.answer) in
           subst (Over of beyond s) (sym v.self-is) (h, x, ended of s h x, refl, refl, refl)
     ] in
     let y : length (shown t.n t.pace.to (framed u.current) (framed u.next)) ≤ t.at =
