@@ -1,5 +1,5 @@
 -- Where a mixer stands after a list of calls. `lists` says what its bank still holds.
-use Rattle.std.specs.Prelude.{◌≡◌, ℕ, ◌-◌, ◌%◌, ◌<◌, false, cond, List, [], ◌∷◌, ◌++◌, length, get_or, drop, nat_le, nat_lt, slice_index, slice_index_or, Float}
+use Rattle.std.specs.Prelude.{◌≡◌, ℕ, ◌-◌, ◌%◌, ◌<◌, false, cond, List, [], ◌∷◌, ◌++◌, length, drop, nat_le, nat_lt, slice_index, slice_index_or, Float}
 use Rattle.law.specs.declared.Call.{Call}
 use Rattle.law.specs.declared.Reply.{Reply}
 use Rattle.law.specs.Told.{Told}
@@ -26,13 +26,13 @@ pub record Partway {B : Type 0} (lists : B → List (List Float)) (m : ℕ) (mad
   pub count : length (lists x.bank) ≡ length made
   pub phase : x.phase ≡ answers h % m
   pub added : x.table.added ≡ length (accepted (length made) h)
-  pub order : (k : ℕ) → k < length (accepted (length made) h) → slice_index x.table.order k ≡ (get_or (accepted (length made) h) k nobody).number
+  pub order : (k : ℕ) → k < length (accepted (length made) h) → slice_index x.table.order k ≡ (slice_index_or (accepted (length made) h) k nobody).number
   pub sources : (k : ℕ) → k < length (accepted (length made) h) →
-      Stands m p (heard k) k (slice_index_or (accepted (length made) h) k nobody) (slice_index_or made (get_or (accepted (length made) h) k nobody).number [])
-      (get_or x.table.places (get_or (accepted (length made) h) k nobody).number idle).state
-      (slice_index_or (lists x.bank) (get_or (accepted (length made) h) k nobody).number [])
+      Stands m p (heard k) k (slice_index_or (accepted (length made) h) k nobody) (slice_index_or made (slice_index_or (accepted (length made) h) k nobody).number [])
+      (slice_index_or x.table.places (slice_index_or (accepted (length made) h) k nobody).number idle).state
+      (slice_index_or (lists x.bank) (slice_index_or (accepted (length made) h) k nobody).number [])
   pub others : (i : ℕ) → i < length made → names i h ≡ false →
-      ((get_or x.table.places i idle).state ≡ Idle) × (slice_index_or (lists x.bank) i [] ≡ slice_index_or made i [])
+      ((slice_index_or x.table.places i idle).state ≡ Idle) × (slice_index_or (lists x.bank) i [] ≡ slice_index_or made i [])
 
 -- A mixer of m channels made over the lists `made`, after the calls of h: between two calls each source had its turn in every answer.
 abbrev pub Follows : {B : Type 0} → (B → List (List Float)) → ℕ → List (List Float) → List Call → Mixer B → Type 0

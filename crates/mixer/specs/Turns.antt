@@ -1,5 +1,5 @@
 -- One source's turn in an answer.
-use Rattle.std.specs.Prelude.{◌≡◌, ℕ, Bool, true, false, List, [], ◌∷◌, get_or, Some, None, Option, slice_index_or, slice_set, Float}
+use Rattle.std.specs.Prelude.{◌≡◌, ℕ, Bool, true, false, List, [], ◌∷◌, Some, None, Option, slice_index_or, slice_set, Float}
 use Rattle.std.specs.Float.Ieee.{add}
 use Rattle.std.specs.Float.{binary32}
 use Rattle.source.specs.Samples.{first, rest, silence}
@@ -45,7 +45,7 @@ plus (Some s) (Some x) = Some (add binary32 s x)
 
 -- The state of source i.
 abbrev pub state_at : {B : Type 0} → Mixer B → ℕ → State
-state_at x i = (get_or x.table.places i idle).state
+state_at x i = (slice_index_or x.table.places i idle).state
 
 -- y is x after the turn of source i: its place and its list went on, and nothing else altered.
 pub record Took {B : Type 0} (lists : B → List (List Float)) (i : ℕ) (x y : Mixer B) : Type 0 where

@@ -23,29 +23,22 @@ invariant_of-self g c =
     let x = c.args.self.now in
     let t = x.table in
     let i = c.args.number in
-    let e = c.enter.ensures in (
-      ap length e.places ∙ length-set t.places i _ ∙ x.places,
-      (
-        ap length e.order ∙ length-set t.order t.added i ∙ x.order,
-        (
-          omega (arith, e.added, c.if-added-lt-MOST_LISTS.true, c.added.ensures.answer),
-          (
-            λ k lt. elim (cases_eq k t.added) [
-              | inl eq ↦ omega (
-                arith,
-                ap (λ (o : List ℕ). get_or o k 0) e.order,
-                ap (λ (n : ℕ). get_or (set t.order t.added i) n 0) eq,
-                get_or-set_same t.order t.added i 0 (omega (arith, x.order, c.if-added-lt-MOST_LISTS.true, c.added.ensures.answer)),
-                c.if-number-count.false,
-                c.count.ensures.bound,
-              )
-              | inr ne ↦ omega (arith, ap (λ (o : List ℕ). get_or o k 0) e.order, get_or-set_other t.order t.added k i 0 ne, x.numbers k (omega (arith, e.added)))
-            ],
-            tt,
-          ),
-        ),
-      ),
-    )
+    let e = c.enter.ensures in record {
+      places = ap length e.places ∙ length-set t.places i _ ∙ x.places;
+      order = ap length e.order ∙ length-set t.order t.added i ∙ x.order;
+      few = omega (arith, e.added, c.if-added-lt-MOST_LISTS.true, c.added.ensures.answer);
+      numbers = (λ k lt. elim (cases_eq k t.added) [
+        | inl eq ↦ omega (
+          arith,
+          ap (λ (o : List ℕ). get_or o k 0) e.order,
+          ap (λ (n : ℕ). get_or (set t.order t.added i) n 0) eq,
+          get_or-set_same t.order t.added i 0 (omega (arith, x.order, c.if-added-lt-MOST_LISTS.true, c.added.ensures.answer)),
+          c.if-number-count.false,
+          c.count.ensures.bound,
+        )
+        | inr ne ↦ omega (arith, ap (λ (o : List ℕ). get_or o k 0) e.order, get_or-set_other t.order t.added k i 0 ne, x.numbers k (omega (arith, e.added)))
+      ]);
+    }
 
 pub returns-then-added-lt-MOST_LISTS : goal.returns-then-added-lt-MOST_LISTS
 returns-then-added-lt-MOST_LISTS g c =

@@ -29,5 +29,5 @@ returns g c =
     ∙ ap (parts_of of a.format a.each a.sources) p.cells in
     record {
       cells = summed_same c.new.result.format a.to (parts_of of q.format q.each q.left q.cells.now) _ a.out.now after.out.now _ after.given
-          c.new.ensures.answer cut (c.out·1.given.1.1 (sym visited.0)) visited.1;
+          c.new.ensures.answer cut (c.out-1.given.1.1 (sym visited.0)) visited.1;
     }

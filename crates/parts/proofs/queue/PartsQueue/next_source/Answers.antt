@@ -20,7 +20,7 @@ returns-then-self-eq0 g c =
 pub returns-in-Err : goal.returns-in-Err
 returns-in-Err g c =
     let q = c.args.self.now in
-    let large : max_cells < q.each = omega (arith, c.in-Err.ensures.answer.0, c.split_at.ensures.front-len) in
+    let large : max_cells < q.each = omega (arith, c.in-Err.ensures.answer.0, c.split_at.ensures.front_len) in
     let e = large_part g.K.Recorded.stands q.format q.each q.cells.now q.left large in
     record { answer = sym (ap first e); after = e ∙ sym (ap rest e) }
 
@@ -31,7 +31,7 @@ returns-in-Ok g c =
     let a = c.in-Ok.ensures.answer in
     let some : 0 < q.left = omega (arith, c.if-self-eq0.false) in
     let long : q.each ≤ _ = c.if-self.false in
-    let few : q.each ≤ max_cells = omega (arith, a.0, c.split_at.ensures.front-len) in
+    let few : q.each ≤ max_cells = omega (arith, a.0, c.split_at.ensures.front_len) in
     let e = one_part of q.format q.each q.cells.now q.left some long few in
     record {
       answer = ap Some (a.1.spans ∙ ap (λ p. open_from q.format (map of p)) c.split_at.ensures.front) ∙ sym (ap first e);
