@@ -13,7 +13,7 @@ fn write_round<B: Bank>(
     bank: &mut B,
     listings: &mut Vec<Listing>,
 ) -> Result<bool, AllocError>
-    ensures drawn { result ≡ Ok true → all_left (lists bank.new) < all_left (lists bank.old) }
+    ensures drawn { result ≡ Ok true → all_left (B.lists bank.new) < all_left (B.lists bank.old) }
 {
     let mut drawn = false;
     for i in 0..listings.len() {
