@@ -1,5 +1,5 @@
 -- The converted list by its places, and one input frame on.
-use Rattle.std.proofs.Common.{◌≡◌, ℕ, ◌+◌, ◌-◌, ◌*◌, ◌/◌, ◌%◌, ◌<◌, ◌≤◌, min, ◌&&◌, eqb, ltb, List, [], ◌∷◌, ◌++◌, length, get_or, drop, sym, refl, ap, ◌∙◌, ⊎_elim, mul-le-mul_right, mod-lt, mod-eq_of_lt, add-mul, one-mul, div-add-mod', zero-mul, arith, length-drop}
+use Rattle.std.proofs.Common.{◌≡◌, ℕ, ◌+◌, ◌-◌, ◌*◌, ◌/◌, ◌%◌, ◌<◌, ◌≤◌, min, ◌&&◌, eqb, ltb, List, length, get_or, drop, sym, ap, ◌∙◌, ⊎_elim, mod-lt, mod-eq_of_lt, add-mul, one-mul, div-add-mod', zero-mul, arith, length-drop}
 use native.Mathlib.Nat.{div-eq_of_lt, div-eq-sub-div, mod-eq-sub-mod, add-div_left, add-mod_left}
 use lib.Ieee.{Float}
 use Rattle.std.proofs.lemmas.List.FromFn.{length-map-range_with_len, get_or-map-range_with_len}

@@ -6,7 +6,7 @@ use lib.ListN.{length-replicate}
 use lib.Seq.{drop-append-add}
 use Rattle.std.proofs.lemmas.List.{drop_all, drop_at, drop_more, ext_get_or, get_or-drop, get_or_at, get_or-replicate, get_or_append_left, get_or-append_right}
 use Rattle.std.proofs.lemmas.Bool.{cases_lt, cases_eq, cond-true, cond-false, lt-ltb, le-ltb, eq-eqb, ne_eqb, and_right, and_from}
-use Rattle.source.specs.Samples.{first, silence}
+use Rattle.source.specs.Samples.{silence}
 use Rattle.channels.specs.Channels.{placed, converted_count, channels_converted}
 use Rattle.channels.specs.Steps.{from_frame, left_to_give}
 use Rattle.channels.proofs.Frames.{count_whole, count_short, converted-length, converted_at, converted-frame, placed_own, placed_other}

@@ -1,5 +1,5 @@
 -- How many input samples are gone, one output sample on.
-use Rattle.std.proofs.Common.{◌≡◌, ℕ, ◌+◌, ◌-◌, ◌*◌, ◌/◌, ◌%◌, ◌<◌, ◌≤◌, min, true, false, cond, eqb, ltb, List, drop, is_some, Option, sym, refl, ap, ◌∙◌, ⊎_elim, mod-lt, add-mul, one-mul, arith}
+use Rattle.std.proofs.Common.{◌≡◌, ℕ, ◌+◌, ◌-◌, ◌*◌, ◌/◌, ◌%◌, ◌<◌, ◌≤◌, min, false, eqb, ltb, List, drop, is_some, sym, ap, ◌∙◌, ⊎_elim, mod-lt, add-mul, one-mul, arith}
 use lib.Ieee.{Float}
 use Rattle.std.proofs.lemmas.Nat.{div-add-mod', div-mul-add, mod-mul-add}
 use Rattle.std.proofs.lemmas.List.{drop-drop}

@@ -1,5 +1,5 @@
 -- A bank's lists once sources are joined to it.
-use Rattle.std.specs.Prelude.{ℕ, ◌-◌, List, ◌++◌, map, length, take, Some, None, Option, Float}
+use Rattle.std.specs.Prelude.{◌-◌, List, ◌++◌, map, length, take, Some, None, Option, Float}
 use Rattle.common.specs.declared.format.Format.{Format}
 use Rattle.source.specs.Meanings.{Spans, Meaning}
 use Rattle.source.specs.Spans.{listed}

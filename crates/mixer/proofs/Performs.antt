@@ -1,5 +1,5 @@
 -- A mixer that has made the first of a list of calls.
-use Rattle.std.proofs.Common.{◌≡◌, ℕ, ◌+◌, ◌<◌, ◌≤◌, List, [], ◌∷◌, ◌++◌, length, get_or, take, IfOk, Ok, Err, Result, sym, refl, ap, ◌∙◌, subst, arith, MatchResult}
+use Rattle.std.proofs.Common.{◌≡◌, ℕ, ◌+◌, ◌<◌, ◌≤◌, List, [], ◌∷◌, ◌++◌, length, get_or, take, IfOk, Ok, Err, Result, sym, ap, ◌∙◌, subst, arith, MatchResult}
 use lib.Ieee.{Float}
 use Rattle.std.proofs.lemmas.List.{append-nil, take_all}
 use Rattle.law.specs.declared.Call.{Call}

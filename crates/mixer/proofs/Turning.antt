@@ -1,5 +1,5 @@
 -- One source's turn, and what it does to a source that stands as it must.
-use Rattle.std.proofs.Common.{◌≡◌, ℕ, zero, suc, ◌-◌, ◌%◌, ◌<◌, ◌≤◌, Bool, true, false, cond, ltb, leb, List, [], ◌∷◌, length, take, drop, is_some, None, sym, refl, ap, ◌∙◌, inl, inr, arith}
+use Rattle.std.proofs.Common.{◌≡◌, ℕ, zero, suc, ◌-◌, ◌%◌, ◌<◌, ◌≤◌, Bool, true, false, cond, leb, List, [], ◌∷◌, length, take, drop, is_some, None, sym, refl, ap, ◌∙◌, inl, inr, arith}
 use lib.Dec.{leb-suc-suc}
 use lib.Ieee.{Float}
 use Rattle.std.specs.Option.{option_to_list}

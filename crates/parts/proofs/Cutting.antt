@@ -1,9 +1,9 @@
 -- One part cut from cells, or none.
-use Rattle.std.proofs.Common.{◌≡◌, ℕ, zero, suc, ◌-◌, ◌<◌, ◌≤◌, Bool, true, false, cond, ◌&&◌, leb, ◌⊎◌, List, [], ◌∷◌, map, length, take, drop, refl, ap, ◌∙◌, inl, inr, arith}
+use Rattle.std.proofs.Common.{◌≡◌, ℕ, zero, suc, ◌-◌, ◌<◌, ◌≤◌, ◌&&◌, leb, ◌⊎◌, List, [], ◌∷◌, map, length, take, drop, refl, inl, inr, arith}
 use lib.Ieee.{Float}
 use Rattle.std.proofs.lemmas.Bool.{le-leb, lt-leb, and_left, and_right, and_from, cond-true, cond-false}
 use Rattle.common.specs.declared.format.Format.{Format}
-use Rattle.source.specs.Meanings.{Spans, open_from}
+use Rattle.source.specs.Meanings.{open_from}
 use Rattle.buffer.specs.Refusals.{max_cells}
 use Rattle.parts.specs.Cut.{parts_of}
 

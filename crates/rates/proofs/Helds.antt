@@ -1,9 +1,9 @@
-use Rattle.std.proofs.Common.{◌≡◌, ℕ, zero, suc, ◌+◌, ◌-◌, ◌*◌, ◌<◌, ◌≤◌, min, true, false, cond, ltb, List, [], ◌∷◌, ◌++◌, length, take, drop, sym, refl, ap, ◌∙◌, ap₂, ⊎_elim, append_assoc, append-nil, suc-mul, zero-mul, arith, length-append, length-drop, drop_of_length-le, length-take}
+use Rattle.std.proofs.Common.{◌≡◌, ℕ, zero, suc, ◌+◌, ◌*◌, ◌<◌, ◌≤◌, min, ltb, List, [], ◌∷◌, ◌++◌, length, take, drop, sym, ap, ◌∙◌, ap₂, ⊎_elim, append-nil, suc-mul, zero-mul, arith, length-append, length-drop, drop_of_length-le, length-take}
 use lib.Ieee.{Float}
-use Rattle.std.proofs.lemmas.List.{take_all, take_at, drop_at, drop_all, take-append-drop, drop-drop}
+use Rattle.std.proofs.lemmas.List.{take_all, take_at, drop_at, take-append-drop, drop-drop}
 use Rattle.std.proofs.lemmas.Bool.{cases_lt, lt-ltb, le-ltb, cond-true, cond-false}
 use Rattle.rates.specs.Rates.{both, lerp}
-use Rattle.rates.specs.Onward.{onward, shown, later, held, behind, Lined}
+use Rattle.rates.specs.Onward.{onward, held, behind, Lined}
 use Rattle.rates.proofs.Places.{onward_next, onward-frame, onward_last}
 
 pub behind_short : (c : ℕ) (nxt inp : List Float) → length nxt < c → behind c nxt inp ≡ []

@@ -1,4 +1,4 @@
-use Rattle.std.proofs.Common.{◌≡◌, ℕ, zero, suc, ◌+◌, ◌-◌, ◌*◌, ◌/◌, ◌%◌, ◌<◌, ◌≤◌, Bool, true, false, cond, eqb, ◌⊎◌, List, [], ◌∷◌, ◌++◌, length, take, drop, sym, refl, ap, ◌∙◌, ap₂, inl, inr, ⊎_elim, append_assoc, append-nil, mul-le-mul_right, mod-eq_of_lt, div-lt_iff_lt-mul, add-mul, one-mul, zero-add, zero-mul, arith, length-drop, drop_of_length-le}
+use Rattle.std.proofs.Common.{◌≡◌, ℕ, zero, suc, ◌+◌, ◌-◌, ◌*◌, ◌/◌, ◌<◌, ◌≤◌, Bool, true, false, cond, eqb, List, [], ◌++◌, length, take, drop, sym, refl, ap, ◌∙◌, ap₂, ⊎_elim, append_assoc, mul-le-mul_right, mod-eq_of_lt, div-lt_iff_lt-mul, add-mul, one-mul, zero-add, zero-mul, arith, length-drop, drop_of_length-le}
 use mathlib.Core.Path.{fun_ext}
 use native.Mathlib.Nat.{div-eq_of_lt, add-div_right, add-mod_right, sub-zero}
 use lib.Ieee.{Float}
@@ -7,7 +7,7 @@ use Rattle.std.proofs.lemmas.Nat.{le-div}
 use Rattle.std.proofs.lemmas.List.{drop-drop, take_all}
 use Rattle.std.proofs.lemmas.Bool.{cases_lt, cases_eq, eq-eqb, ne_eqb, cond-true, cond-false}
 use Rattle.rates.specs.Rates.{both, lerp, frame, frames, resampled}
-use Rattle.rates.specs.Onward.{shown_at, ahead, last_at, onward, held}
+use Rattle.rates.specs.Onward.{shown_at, ahead, last_at, onward}
 
 -- a quotient that is rounded up, one divisor less
 pub ceil_less : (a b : ℕ) → 0 < b → (a - b + (b - 1)) / b ≡ (a + (b - 1)) / b - 1

@@ -1,10 +1,10 @@
 // The greatest common divisor, and linear interpolation between two samples.
 ghost use Rattle.std.specs.Prelude.{◌≡◌, ℕ};
 ghost use Rattle.std.specs.Int.{◌∣◌};
-ghost use Rattle.rates.specs.Rates.{gcd as greatest-divisor, lerp_by};
+ghost use Rattle.rates.specs.Rates.{gcd as greatest_divisor, lerp_by};
 
 pub fn gcd(a: u32, b: u32) -> u32
-    ensures answer { result ≡ greatest-divisor a b }
+    ensures answer { result ≡ greatest_divisor a b }
     ensures divides { (result ∣ a) × (result ∣ b) }
     ensures greatest { (d : ℕ) → d ∣ a → d ∣ b → d ∣ result }
 {

@@ -1,5 +1,5 @@
 -- A sample drawn from a bank is one sample less in its lists.
-use Rattle.std.proofs.Common.{◌≡◌, ℕ, zero, suc, ◌+◌, List, [], ◌∷◌, length, get_or, Some, None, Option, refl, arith}
+use Rattle.std.proofs.Common.{◌≡◌, ℕ, zero, suc, ◌+◌, List, [], ◌∷◌, get_or, Some, None, Option, refl, arith}
 use lib.Ieee.{Float}
 use Rattle.source.specs.Samples.{first}
 use Rattle.bank.specs.Banks.{drawn_at}

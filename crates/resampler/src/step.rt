@@ -1,7 +1,7 @@
 // Making a resampler, drawing from it, and taking it apart again.
 ghost use Rattle.std.specs.Prelude.{◌≡◌, ◌/◌, [], None};
 ghost use Rattle.source.specs.Samples.{first, rest};
-ghost use Rattle.rates.specs.Rates.{gcd as greatest-divisor, resampled};
+ghost use Rattle.rates.specs.Rates.{gcd as greatest_divisor, resampled};
 ghost use Rattle.frames.specs.Windows.{seen, seen_past, EndsOn};
 ghost use Rattle.resampler.specs.Resamplers.{remaining, following, sample_here, place_next, steps_next, Drawn, DrawsOn, LeavesInput};
 
@@ -14,8 +14,8 @@ use source::Samples;
 impl Pace {
     // The rates without their common divisor.
     pub fn new(from: SampleRate, to: SampleRate) -> Pace
-        ensures from { result.from ≡ from.rate / greatest-divisor from.rate to.rate }
-        ensures to { result.to ≡ to.rate / greatest-divisor from.rate to.rate }
+        ensures from { result.from ≡ from.rate / greatest_divisor from.rate to.rate }
+        ensures to { result.to ≡ to.rate / greatest_divisor from.rate to.rate }
     {
         let from_rate = from.get();
         let to_rate = to.get();

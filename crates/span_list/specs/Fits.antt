@@ -1,5 +1,5 @@
 -- What is left of a known span is no longer than the span.
-use Rattle.std.specs.Prelude.{ℕ, ◌≤◌, List, length, drop, vec_items, vec_len, Float}
+use Rattle.std.specs.Prelude.{ℕ, ◌≤◌, length, drop, vec_items}
 use Rattle.std.proofs.Common.{arith, length-drop}
 use Rattle.source.specs.Meanings.{longest_known}
 use Rattle.span_list.specs.declared.known_span.KnownSpan.{KnownSpan}

@@ -1,5 +1,5 @@
 -- A list cut into pieces, one piece on.
-use Rattle.std.proofs.Common.{◌≡◌, ℕ, zero, suc, ◌+◌, ◌-◌, ◌*◌, ◌/◌, ◌<◌, ◌≤◌, min, List, [], ◌∷◌, ◌++◌, map, length, take, drop, sym, refl, ap, ◌∙◌, ap₂, ⊎_elim, add-mul, one-mul, zero-mul, arith, length-drop}
+use Rattle.std.proofs.Common.{◌≡◌, ℕ, zero, suc, ◌+◌, ◌-◌, ◌*◌, ◌/◌, ◌<◌, ◌≤◌, min, List, [], ◌∷◌, map, length, take, drop, sym, refl, ap, ◌∙◌, ap₂, ⊎_elim, add-mul, one-mul, zero-mul, arith, length-drop}
 use mathlib.Core.Path.{fun_ext}
 use native.Mathlib.Nat.{div-eq_of_lt}
 use Rattle.std.specs.List.{range_with_len}

@@ -1,12 +1,12 @@
 -- The front of a source, one sample on, and at its end.
-use Rattle.std.proofs.Common.{◌≡◌, ℕ, zero, suc, ◌-◌, ◌<◌, ◌≤◌, List, [], ◌∷◌, ◌++◌, length, take, drop, Some, None, Option, sym, refl, ap, ◌∙◌, sub-one, arith}
+use Rattle.std.proofs.Common.{◌≡◌, ℕ, zero, suc, ◌-◌, ◌<◌, ◌≤◌, List, [], ◌∷◌, length, take, drop, Some, None, Option, sym, refl, ap, ◌∙◌, sub-one, arith}
 use native.Mathlib.Bridge.{le_prop}
 use native.Mathlib.Nat.{le_of_suc-le}
 use lib.Ieee.{Float}
 use Rattle.common.specs.declared.format.Format.{Format}
-use Rattle.source.specs.Meanings.{Spans, silent, open_span, known_span, Meaning, open_from, known_from, all_samples, less_first, samples_of, with_spans, after_next, at_end, longest_known}
+use Rattle.source.specs.Meanings.{Spans, silent, open_span, known_span, Meaning, known_from, all_samples, less_first, samples_of, with_spans, after_next, longest_known}
 use Rattle.source.specs.Samples.{first, rest}
-use Rattle.uniform.specs.Takes.{taken, less, behind}
+use Rattle.uniform.specs.Takes.{less, behind}
 
 -- a source with nothing to give has no span
 pub no_span : (ss : Spans) → first (all_samples ss) ≡ None → ss ≡ silent

@@ -1,5 +1,5 @@
 -- The uniform stream, one piece on.
-use Rattle.std.proofs.Common.{◌≡◌, ℕ, zero, suc, ◌+◌, ◌-◌, ◌*◌, ◌/◌, ◌<◌, ◌≤◌, min, true, false, cond, eqb, List, [], ◌∷◌, ◌++◌, map, length, take, drop, is_some, Some, None, Option, sym, refl, ap, ◌∙◌, ap₂, ⊎_elim, append-nil, arith, length-append, length-drop, length-take}
+use Rattle.std.proofs.Common.{◌≡◌, ℕ, ◌+◌, ◌/◌, ◌<◌, ◌≤◌, min, true, false, eqb, List, [], ◌∷◌, ◌++◌, map, length, take, drop, Some, None, Option, sym, refl, ap, ◌∙◌, ap₂, ⊎_elim, append-nil, arith, length-append, length-drop, length-take}
 use lib.Ieee.{Float}
 use Rattle.std.specs.List.{flat_map}
 use Rattle.std.proofs.lemmas.List.{nil_from_length, take-append-le}
@@ -7,15 +7,15 @@ use Rattle.std.proofs.lemmas.Bool.{cases_lt, cases_Bool, cond-true, cond-false, 
 use Rattle.common.specs.declared.format.Format.{Format}
 use Rattle.source.specs.Meanings.{Spans, silent, open_span, known_span, open_from, known_from, all_samples, format_or, length_or, longest_known}
 use Rattle.source.specs.Samples.{first}
-use Rattle.source.specs.Spans.{Span, listed, span_of}
-use Rattle.channels.specs.Channels.{channels_converted, converted_count}
+use Rattle.source.specs.Spans.{listed, span_of}
+use Rattle.channels.specs.Channels.{channels_converted}
 use Rattle.channels.proofs.Frames.{converted-length, converted_same, count_short}
 use Rattle.channels.proofs.Places.{reach}
 use Rattle.rates.specs.Rates.{rate_converted, resampled, gcd, both, lerp}
 use Rattle.rates.specs.Onward.{onward}
 use Rattle.rates.proofs.Places.{onward_start, onward_last, onward-frame}
 use Rattle.rates.proofs.Divisors.{gcd_divides, reduced_low}
-use Rattle.uniform.specs.Pieces.{Piece, pieces, pieces_of, span_pieces, cut_length}
+use Rattle.uniform.specs.Pieces.{Piece, pieces, cut_length}
 use Rattle.uniform.specs.Takes.{taken, less, behind_spans, piece_length}
 use Rattle.uniform.specs.Uniform.{piece_converted, uniform}
 use Rattle.uniform.proofs.Cuts.{pieces_none, pieces-cons, take_min, drop_min}

@@ -1,9 +1,9 @@
 -- What is left of a uniform stream. `of` says what the source below means.
-use Rattle.std.specs.Prelude.{◌≡◌, ℕ, false, List, [], ◌++◌, Some, None, Option, Float}
+use Rattle.std.specs.Prelude.{◌≡◌, false, List, [], ◌++◌, Some, None, Option, Float}
 use Rattle.common.specs.declared.format.Format.{Format}
 use Rattle.source.specs.Meanings.{Meaning, Spans, silent, open_from, samples_of}
 use Rattle.source.specs.Spans.{listed}
-use Rattle.channels.specs.Converters.{converted as channels-left}
+use Rattle.channels.specs.Converters.{converted as channels_left}
 use Rattle.channels.specs.declared.ChannelCountConverter.{ChannelCountConverter}
 use Rattle.sample_rate.specs.Converters.{converted as rate_left, inner}
 use Rattle.sample_rate.specs.declared.SampleRateConverter.{SampleRateConverter}
@@ -22,7 +22,7 @@ module _ {S : Type 0} (of : S → Meaning) where
   piece_left p = taken p.n (samples_of (of p.iter))
 
   abbrev pub chain_left : Chain S → List Float
-  chain_left c = channels-left (rate_left piece_left) c
+  chain_left c = channels_left (rate_left piece_left) c
 
   -- The source behind the piece.
   abbrev pub chain_beyond : Chain S → Meaning

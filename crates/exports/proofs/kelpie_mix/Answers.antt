@@ -1,5 +1,5 @@
 -- A format that is refused leaves the cells alone; two that are taken are the numbers handed in.
-use Rattle.std.proofs.Common.{Bool, ◌&&◌, refl}
+use Rattle.std.proofs.Common.{refl}
 use Rattle.std.proofs.lemmas.Bool.{and_left, and_right, and_from}
 use Rattle.exports.specs.Answers.{good_format}
 use Rattle.exports.proofs.Judging.{format_taken, format_refused}

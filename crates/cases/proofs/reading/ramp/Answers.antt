@@ -1,5 +1,5 @@
 -- One more sample is the next number.
-use Rattle.std.proofs.Common.{◌≡◌, pos, sym, arith}
+use Rattle.std.proofs.Common.{pos, arith}
 use lib.Ieee.{binary32, of_int}
 use Rattle.std.proofs.lemmas.List.FromFn.{map-range_with_len_more}
 use Rattle.cases.proofs.reading.ramp.Goals as goal

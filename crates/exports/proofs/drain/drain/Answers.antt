@@ -1,5 +1,5 @@
 -- A turn that draws nothing stands at the end of the list; any other writes one sample more.
-use Rattle.std.proofs.Common.{◌≡◌, ◌<◌, ◌≤◌, min, true, false, length, drop, set, is_some, Some, None, sym, ap, ◌∙◌, arith}
+use Rattle.std.proofs.Common.{◌≡◌, ◌<◌, ◌≤◌, min, length, drop, set, is_some, Some, None, sym, ap, ◌∙◌, arith}
 use Rattle.source.specs.Samples.{first, rest}
 use Rattle.source.proofs.Draws.{rest-drop, first_none, first_some}
 use Rattle.exports.proofs.Writing.{write_more, write_end}

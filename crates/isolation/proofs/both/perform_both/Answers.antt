@@ -1,5 +1,5 @@
 -- Both keep the law of mixing, and the law of isolation holds of the law's replies.
-use Rattle.std.proofs.Common.{◌+◌, ◌≤◌, List, ◌++◌, map, get_or, take, vec_items, sym, subst, subst₂, arith}
+use Rattle.std.proofs.Common.{◌+◌, ◌≤◌, List, ◌++◌, map, get_or, take, vec_items, sym, subst, arith}
 use Rattle.law.specs.declared.Call.TheVariants.{Add, Next}
 use Rattle.law.specs.declared.Reply.{Reply}
 use Rattle.uniform.specs.Uniform.{uniform}

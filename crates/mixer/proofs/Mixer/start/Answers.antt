@@ -1,5 +1,5 @@
 -- At phase 0 a frame begins, and elsewhere nobody waits for this answer.
-use Rattle.std.proofs.Common.{◌≡◌, ℕ, ◌%◌, ◌<◌, Bool, cond, eqb, List, length, get_or, sym, refl, ap, ◌∙◌, subst, arith}
+use Rattle.std.proofs.Common.{ℕ, ◌%◌, ◌<◌, Bool, cond, List, length, get_or, sym, refl, ap, ◌∙◌, subst, arith}
 use lib.ListN.{get_or-map}
 use Rattle.std.proofs.lemmas.List.{length-map}
 use Rattle.std.proofs.lemmas.Bool.{eq-eqb, ne_eqb}

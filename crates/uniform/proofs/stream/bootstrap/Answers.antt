@@ -1,5 +1,5 @@
 -- The chain stands over the source's first piece.
-use Rattle.std.proofs.Common.{◌≡◌, ◌++◌, Some, sym, refl, ap, ◌∙◌, ap₂}
+use Rattle.std.proofs.Common.{◌≡◌, ◌++◌, Some, sym, ap, ◌∙◌, ap₂}
 use Rattle.common.specs.declared.format.ChannelCount.{ChannelCount}
 use Rattle.common.specs.declared.format.SampleRate.{SampleRate}
 use Rattle.source.specs.Meanings.{samples_of, span_len_now, format_now}

@@ -1,5 +1,5 @@
 -- Each turn takes one cell over and fills it with the next sample, if there is one.
-use Rattle.std.proofs.Common.{◌≡◌, ℕ, suc, ◌+◌, ◌<◌, ◌≤◌, min, [], ◌∷◌, ◌++◌, length, get_or, take, drop, set, sym, ap, ◌∙◌, add-one, arith, length-set, length-take, take_all, take-suc-set, rules}
+use Rattle.std.proofs.Common.{◌≡◌, suc, ◌+◌, ◌<◌, ◌≤◌, [], ◌∷◌, ◌++◌, length, get_or, take, drop, set, sym, ap, ◌∙◌, add-one, arith, length-set, length-take, take_all, take-suc-set, rules}
 use lib.Ieee.{nan}
 use Rattle.source.specs.Samples.{first, rest}
 use Rattle.source.proofs.Draws.{rest-drop}

@@ -1,5 +1,5 @@
 -- With no source joined the lists are the bank's own.
-use Rattle.std.proofs.Common.{sym, refl, subst}
+use Rattle.std.proofs.Common.{refl}
 use Rattle.joining.proofs.Joining.{with_none}
 use Rattle.joining.proofs.more.NoMoreJoins.join.Goals as goal
 

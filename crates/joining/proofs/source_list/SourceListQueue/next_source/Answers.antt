@@ -1,5 +1,5 @@
 -- An empty vector has no first source.
-use Rattle.std.proofs.Common.{◌≡◌, List, [], map, length, vec_items, sym, refl, ap, ◌∙◌, arith}
+use Rattle.std.proofs.Common.{◌≡◌, [], map, vec_items, sym, ap, ◌∙◌, arith}
 use Rattle.std.proofs.lemmas.List.{nil_from_length}
 use Rattle.std.proofs.lemmas.Bool.{eqb-true}
 use Rattle.source.specs.Meanings.{Spans}

@@ -1,5 +1,5 @@
 -- Every source of the bank is added, and then the answers are written.
-use Rattle.std.proofs.Common.{[], refl, subst}
+use Rattle.std.proofs.Common.{refl, subst}
 use Rattle.mixer.specs.Following.{Follows}
 use Rattle.parts.specs.Sums.{adds}
 use Rattle.parts.proofs.mixing.AnswersVisitor.visit.Goals as goal

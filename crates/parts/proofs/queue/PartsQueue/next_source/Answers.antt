@@ -1,5 +1,5 @@
 -- A part is handed out while there is one.
-use Rattle.std.proofs.Common.{◌≡◌, ◌-◌, ◌<◌, ◌≤◌, map, Some, sym, ap, ◌∙◌, inl, inr, arith}
+use Rattle.std.proofs.Common.{◌-◌, ◌<◌, ◌≤◌, map, Some, sym, ap, ◌∙◌, inl, inr, arith}
 use Rattle.source.specs.Meanings.{open_from}
 use Rattle.source.specs.Samples.{first, rest}
 use Rattle.buffer.specs.Refusals.{max_cells}

@@ -1,5 +1,5 @@
 -- The length is that of the span that the list stands in.
-use Rattle.std.proofs.Common.{◌≡◌, ℕ, ◌+◌, ◌-◌, ◌<◌, ◌≤◌, true, false, cond, length, get_or, drop, Some, None, vec_items, vec_len, Option, sym, ap, ◌∙◌, arith}
+use Rattle.std.proofs.Common.{ℕ, ◌+◌, ◌-◌, ◌<◌, ◌≤◌, cond, length, get_or, drop, Some, None, vec_items, Option, sym, ap, ◌∙◌, arith}
 use Rattle.std.proofs.lemmas.List.{get_or_default}
 use Rattle.source.specs.Meanings.{length_or}
 use Rattle.source.specs.Samples.{silence}

@@ -1,5 +1,5 @@
 -- One sample drawn makes the front one shorter, and leaves what is behind it.
-use Rattle.std.proofs.Common.{◌≡◌, ◌-◌, ◌<◌, take, Some, None, sym, ap, ◌∙◌, arith}
+use Rattle.std.proofs.Common.{◌-◌, ◌<◌, take, Some, sym, ap, ◌∙◌, arith}
 use Rattle.source.specs.Meanings.{samples_of}
 use Rattle.source.specs.Samples.{first}
 use Rattle.uniform.specs.Takes.{behind}
