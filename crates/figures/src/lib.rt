@@ -2,12 +2,12 @@
 #![tactic(auto)]
 
 ghost use Rattle.std.specs.Prelude.{◌≡◌, true};
-ghost use Rattle.std.specs.List.{AllByRecursion as All};
+ghost use Rattle.std.specs.List.{AllByRecursion};
 ghost use Rattle.figures.specs.Figures.{Holds, figures};
 
 pub fn figures_hold() -> bool
     ensures answer { result ≡ true }
-    ensures law { All Holds figures }
+    ensures law { AllByRecursion Holds figures }
 {
     true
 }

@@ -3,7 +3,7 @@ use Rattle.std.proofs.Common.{◌≡◌, ℕ, ◌+◌, ◌-◌, ◌*◌, ◌/◌
 use native.Mathlib.Nat.{mul-add-mod_self_right}
 use lib.Ieee.{Float}
 use lib.ListN.{get_or-map}
-use Rattle.std.specs.List.{flat_map, AllByRecursion as All}
+use Rattle.std.specs.List.{flat_map, AllByRecursion}
 use Rattle.std.proofs.lemmas.Nat.{div-add-mod'}
 use Rattle.std.proofs.lemmas.List.{length-map}
 use Rattle.std.proofs.lemmas.Bool.{cases_eq, leb-true}
@@ -34,7 +34,7 @@ agree_piece_converted m rate d p q h w = rw (← h.one_format.0, ← h.one_forma
     (agree_channels_converted p.channels m d _ _ w.0
     (agree_rate_converted p.channels d p.rate rate p.samples q.samples (agree_piece d p q h w)))
 
-agree_uniform : (m rate d : ℕ) (ps qs : List Piece) → Pairwise (PieceSaveIn d) ps qs → All WholeFrames ps →
+agree_uniform : (m rate d : ℕ) (ps qs : List Piece) → Pairwise (PieceSaveIn d) ps qs → AllByRecursion WholeFrames ps →
     AgreeOff m d (flat_map (piece_converted m rate) ps) (flat_map (piece_converted m rate) qs)
 agree_uniform m rate d [] [] h w = agree_none m d
 agree_uniform m rate d [] (q ∷ qs) h w = elim h [ ]

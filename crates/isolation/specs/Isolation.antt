@@ -1,6 +1,6 @@
 -- The law of isolation: two mixers under the same calls whose sources agree but for the values of one source in one channel.
 use Rattle.std.specs.Prelude.{◌≡◌, ℕ, ◌%◌, ◌<◌, ◌≤◌, List, [], ◌∷◌, map, length, ◌≢◌, slice_index_or}
-use Rattle.std.specs.List.{AllByRecursion as All}
+use Rattle.std.specs.List.{AllByRecursion}
 use Rattle.law.specs.Mixing.{reply, answers}
 use Rattle.law.specs.declared.Call.{Call}
 use Rattle.law.specs.declared.Reply.{Reply}
@@ -44,7 +44,7 @@ pub record Like (S d : ℕ) (ps qs : List (List Span)) : Type 0 where
   pub as_many : length ps ≡ length qs
   pub others : (i : ℕ) → (i ≢ S) → slice_index_or ps i [] ≡ slice_index_or qs i []
   pub values : Pairwise (PieceSaveIn d) (pieces (slice_index_or ps S [])) (pieces (slice_index_or qs S []))
-  pub whole : All WholeFrames (pieces (slice_index_or ps S []))
+  pub whole : AllByRecursion WholeFrames (pieces (slice_index_or ps S []))
 
 -- Under the same calls the replies are of one kind, and the same wherever the answer's channel is not d.
 abbrev pub Isolated : Type 0

@@ -1,6 +1,6 @@
 -- The accepted sources: each below the count, named, accepted no later than now, and accepted once.
 use Rattle.std.proofs.Common.{◌≡◌, ℕ, zero, suc, ◌+◌, ◌<◌, ◌≤◌, Bool, true, false, cond, not, ◌&&◌, ◌||◌, eqb, ltb, List, [], ◌∷◌, ◌++◌, length, get_or, sym, refl, ap, subst, arith}
-use Rattle.std.specs.List.{AllByRecursion as All}
+use Rattle.std.specs.List.{AllByRecursion}
 use Rattle.std.proofs.ByRecursion.{All-get_or, All-weaker}
 use Rattle.std.proofs.lemmas.Bool.{ltb-true, lt-ltb, eqb-true, eqb-false, eq-eqb, not-true, and_parts, and_from, not_from_false, or_parts}
 use Rattle.law.specs.declared.Call.{Call}
@@ -27,7 +27,7 @@ sound_on count i past h a s = record {
   early = s.early;
 }
 
-pub all_sound : (count : ℕ) (past h : List Call) → All (Sound count past h) (accepted_since count past h)
+pub all_sound : (count : ℕ) (past h : List Call) → AllByRecursion (Sound count past h) (accepted_since count past h)
 all_sound count past [] = tt
 all_sound count past (Next ∷ h) =
     All-weaker (Sound count (Next ∷ past) h) (Sound count past (Next ∷ h))
@@ -38,8 +38,8 @@ all_sound count past (Add i ∷ h) =
     (accepted_since count (Add i ∷ past) h) (all_sound count (Add i ∷ past) h))
     (ltb i count && not (names i past)) refl
   where
-    head : All (Sound count past (Add i ∷ h)) (accepted_since count (Add i ∷ past) h) → (b : Bool) → (ltb i count && not (names i past)) ≡ b →
-        All (Sound count past (Add i ∷ h)) (cond b (record { number = i; after = answers past } ∷ []) [] ++ accepted_since count (Add i ∷ past) h)
+    head : AllByRecursion (Sound count past (Add i ∷ h)) (accepted_since count (Add i ∷ past) h) → (b : Bool) → (ltb i count && not (names i past)) ≡ b →
+        AllByRecursion (Sound count past (Add i ∷ h)) (cond b (record { number = i; after = answers past } ∷ []) [] ++ accepted_since count (Add i ∷ past) h)
     head later true e =
         let p = and_parts (ltb i count) (not (names i past)) e in
         let same : eqb i i ≡ true = eq-eqb i i refl in
@@ -55,7 +55,7 @@ early count h k lt = omega (arith, (sound count h k lt).early)
 -- no two with one number
 abbrev pub Apart : List Accepted → Type 0
 Apart [] = Unit {0}
-Apart (a ∷ ks) = All (λ (b : Accepted). b.number ≡ a.number → ⊥) ks × Apart ks
+Apart (a ∷ ks) = AllByRecursion (λ (b : Accepted). b.number ≡ a.number → ⊥) ks × Apart ks
 
 pub apart_since : (count : ℕ) (past h : List Call) → Apart (accepted_since count past h)
 apart_since count past [] = tt

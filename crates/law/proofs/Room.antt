@@ -1,6 +1,6 @@
 -- There are no more accepted sources than numbers below the count, so one that was not named still finds room.
 use Rattle.std.proofs.Common.{◌≡◌, ℕ, zero, suc, ◌<◌, ◌≤◌, Bool, true, false, cond, not, eqb, List, [], ◌∷◌, length, filter, refl, ap, subst, inl, inr, arith}
-use Rattle.std.specs.List.{AllByRecursion as All}
+use Rattle.std.specs.List.{AllByRecursion}
 use Rattle.std.proofs.ByRecursion.{All-weaker, all_kept_by}
 use Rattle.std.proofs.lemmas.Bool.{eq-eqb, ne_eqb, cases_eq}
 use Rattle.law.specs.declared.Call.{Call}
@@ -11,14 +11,14 @@ use Rattle.law.proofs.Acceptance.{Sound, all_sound, Apart, apart_since}
 abbrev not_at : ℕ → Accepted → Bool
 not_at n a = not (eqb a.number n)
 
-all_kept : (n : ℕ) (ks : List Accepted) → All (λ (b : Accepted). b.number ≡ n → ⊥) ks → filter (not_at n) ks ≡ ks
+all_kept : (n : ℕ) (ks : List Accepted) → AllByRecursion (λ (b : Accepted). b.number ≡ n → ⊥) ks → filter (not_at n) ks ≡ ks
 all_kept n [] p = refl
 all_kept n (a ∷ ks) p = rw (ne_eqb a.number n p.0) (ap (λ (bs : List Accepted). a ∷ bs) (all_kept n ks p.1))
 
 one_less : (n : ℕ) (ks : List Accepted) → Apart ks → length ks ≤ suc (length (filter (not_at n) ks))
 one_less n [] p = omega arith
 one_less n (a ∷ ks) p = elim (cases_eq a.number n) [
-  | inl e ↦ rw (eq-eqb a.number n e, all_kept n ks (subst (λ (k : ℕ). All (λ (b : Accepted). b.number ≡ k → ⊥) ks) e p.0)) (omega arith)
+  | inl e ↦ rw (eq-eqb a.number n e, all_kept n ks (subst (λ (k : ℕ). AllByRecursion (λ (b : Accepted). b.number ≡ k → ⊥) ks) e p.0)) (omega arith)
   | inr ne ↦ rw (ne_eqb a.number n ne) (omega (arith, one_less n ks p.1))
 ]
 
@@ -30,7 +30,7 @@ apart_kept n (a ∷ ks) p = by (apart_kept n ks p.1) (not_at n a)
     by rest true = (all_kept_by (not_at n) (λ (b : Accepted). b.number ≡ a.number → ⊥) ks p.0, rest)
     by rest false = rest
 
-below_kept : (n : ℕ) (ks : List Accepted) → All (λ (b : Accepted). b.number < suc n) ks → All (λ (b : Accepted). b.number < n) (filter (not_at n) ks)
+below_kept : (n : ℕ) (ks : List Accepted) → AllByRecursion (λ (b : Accepted). b.number < suc n) ks → AllByRecursion (λ (b : Accepted). b.number < n) (filter (not_at n) ks)
 below_kept n [] p = tt
 below_kept n (a ∷ ks) p = elim (cases_eq a.number n) [
   | inl e ↦ rw (eq-eqb a.number n e) (below_kept n ks p.1)
@@ -38,7 +38,7 @@ below_kept n (a ∷ ks) p = elim (cases_eq a.number n) [
 ]
 
 -- there are no more of them than numbers
-no_more_than : (n : ℕ) (ks : List Accepted) → Apart ks → All (λ (b : Accepted). b.number < n) ks → length ks ≤ n
+no_more_than : (n : ℕ) (ks : List Accepted) → Apart ks → AllByRecursion (λ (b : Accepted). b.number < n) ks → length ks ≤ n
 no_more_than zero [] p b = omega arith
 no_more_than zero (a ∷ ks) p b = let z : ⊥ = omega (arith, b.0) in absurd z
 no_more_than (suc n) ks p b =

@@ -1,7 +1,7 @@
 -- What one source adds to an answer, and when an answer has nothing in it.
 use Rattle.std.proofs.Common.{◌≡◌, ℕ, ◌+◌, ◌-◌, ◌<◌, ◌≤◌, leb, List, [], ◌∷◌, ◌++◌, length, get_or, take, drop, sym, refl, ap, ◌∙◌, ap₂, inl, inr, ⊎_elim, arith, length-append}
 use lib.Ieee.{Float}
-use Rattle.std.specs.List.{flat_map, AllByRecursion as All}
+use Rattle.std.specs.List.{flat_map, AllByRecursion}
 use Rattle.std.proofs.lemmas.List.{drop_more, drop_all, nil_from_length}
 use Rattle.std.proofs.lemmas.Bool.{cases_lt, cond-true, cond-false, le-leb, lt-leb}
 use Rattle.source.specs.Samples.{silence}
@@ -54,14 +54,14 @@ pub enters_once_lem : EntersOnce
 enters_once_lem m lists a = (one_from m lists a, from_one m lists a)
 
 -- a join is empty exactly where each part is
-joined_none : {X : Type 0} (f : X → List Float) (P : X → Type 0) → ((x : X) → f x ≡ [] → P x) → (xs : List X) → flat_map f xs ≡ [] → All P xs
+joined_none : {X : Type 0} (f : X → List Float) (P : X → Type 0) → ((x : X) → f x ≡ [] → P x) → (xs : List X) → flat_map f xs ≡ [] → AllByRecursion P xs
 joined_none f P g [] e = tt
 joined_none f P g (x ∷ xs) e =
     let l = length-append (f x) (flat_map f xs) in
     let n : length (f x ++ flat_map f xs) ≡ 0 = ap length e in
     (g x (nil_from_length (f x) (omega arith)), joined_none f P g xs (nil_from_length (flat_map f xs) (omega arith)))
 
-none_joined : {X : Type 0} (f : X → List Float) (P : X → Type 0) → ((x : X) → P x → f x ≡ []) → (xs : List X) → All P xs → flat_map f xs ≡ []
+none_joined : {X : Type 0} (f : X → List Float) (P : X → Type 0) → ((x : X) → P x → f x ≡ []) → (xs : List X) → AllByRecursion P xs → flat_map f xs ≡ []
 none_joined f P g [] h = refl
 none_joined f P g (x ∷ xs) h = ap₂ (λ a b. a ++ b) (g x h.0) (none_joined f P g xs h.1)
 

@@ -1,7 +1,7 @@
 -- The law's replies keep the law of the whole list.
 use Rattle.std.proofs.Common.{ℕ, ◌≤◌, List, [], ◌∷◌, ◌++◌, length, take}
 use lib.Ieee.{Float}
-use Rattle.std.specs.List.{AllByRecursion as All}
+use Rattle.std.specs.List.{AllByRecursion}
 use Rattle.law.specs.declared.Call.{Call}
 use Rattle.law.specs.declared.Reply.TheVariants.{End}
 use Rattle.law.specs.Mixing.{Accepted, accepted, replies}
@@ -11,7 +11,7 @@ use Rattle.law.proofs.Runs.{length-replies, reply_at}
 use Rattle.law.proofs.Starts.{starts_at_frame_lem}
 use Rattle.law.proofs.Terms.{enters_once_lem, ends_when_silent_lem}
 
-all_of : {A : Type 0} (P : A → Type 0) → ((a : A) → P a) → (xs : List A) → All P xs
+all_of : {A : Type 0} (P : A → Type 0) → ((a : A) → P a) → (xs : List A) → AllByRecursion P xs
 all_of P f [] = tt
 all_of P f (x ∷ xs) = (f x, all_of P f xs)
 

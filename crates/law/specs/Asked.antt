@@ -1,6 +1,6 @@
 -- What a reader asks of the law of mixing.
 use Rattle.std.specs.Prelude.{◌≡◌, ℕ, ◌+◌, ◌-◌, ◌%◌, ◌<◌, ◌≤◌, true, ◌⊎◌, List, [], ◌∷◌, ◌++◌, length, take, is_some, slice_index_or, Float}
-use Rattle.std.specs.List.{AllByRecursion as All}
+use Rattle.std.specs.List.{AllByRecursion}
 use Rattle.source.specs.Samples.{silence}
 use Rattle.law.specs.declared.Call.{Call}
 use Rattle.law.specs.declared.Call.TheVariants.{Next}
@@ -35,7 +35,7 @@ Found i took = (k : ℕ) × (k < length took) × ((slice_index_or took k nobody)
 abbrev pub AcceptedOnce : Type 0
 AcceptedOnce =
     (count : ℕ) (h : List Call) →
-    All (Within count h) (accepted count h)
+    AllByRecursion (Within count h) (accepted count h)
     × ((i : ℕ) → i < count → names i h ≡ true → Found i (accepted count h))
     × ((j k : ℕ) → j < length (accepted count h) → k < length (accepted count h) →
     (slice_index_or (accepted count h) j nobody).number ≡ (slice_index_or (accepted count h) k nobody).number → j ≡ k)
@@ -57,5 +57,5 @@ Silent m lists q a = (q < frame_start m a.after) ⊎ (frame_start m a.after + le
 abbrev pub EndsWhenSilent : Type 0
 EndsWhenSilent =
     (m : ℕ) (lists : List (List Float)) (h : List Call) →
-    (reply m lists h Next ≡ End → All (Silent m lists (answers h)) (accepted (length lists) h))
-    × (All (Silent m lists (answers h)) (accepted (length lists) h) → reply m lists h Next ≡ End)
+    (reply m lists h Next ≡ End → AllByRecursion (Silent m lists (answers h)) (accepted (length lists) h))
+    × (AllByRecursion (Silent m lists (answers h)) (accepted (length lists) h) → reply m lists h Next ≡ End)
