@@ -13,7 +13,12 @@ use Rattle.mixer.proofs.Mixer.start.Goals as goal
 pub invariant_of-self : goal.invariant_of-self
 invariant_of-self g c =
     let x = c.args.self.now in
-    let e = c.start.ensures in record { places = ap length e.places ∙ length-map x.table.places begun ∙ x.places; order = ap length e.order ∙ x.order; few = omega (arith, e.added, x.few); numbers = (λ k lt. subst (λ (o : List ℕ). get_or o k 0 < most_lists) (sym e.order) (x.numbers k (omega (arith, e.added)))) }
+    let e = c.start.ensures in record {
+      places = ap length e.places ∙ length-map x.table.places begun ∙ x.places;
+      order = ap length e.order ∙ x.order;
+      few = omega (arith, e.added, x.few);
+      numbers = λ k lt. subst (λ (o : List ℕ). get_or o k 0 < most_lists) (sym e.order) (x.numbers k (omega (arith, e.added)));
+    }
 
 pub returns-then-self-eq-FRAME_START : goal.returns-then-self-eq-FRAME_START
 returns-then-self-eq-FRAME_START g c =

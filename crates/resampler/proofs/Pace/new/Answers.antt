@@ -23,7 +23,14 @@ invariant_of-result c =
     let d = c.gcd-divisor.result in
     let x = a / d in
     let y = b / d in
-    let low : 0 < y = reduced_low b d c.get-to_rate.ensures.low c.gcd-divisor.ensures.divides.1 in record { from_low = reduced_low a d c.get-from_rate.ensures.low c.gcd-divisor.ensures.divides.0; from_high = omega (arith, div-le_self a d); to_low = low; to_high = omega (arith, div-le_self b d); divided = omega (arith, div-add-mod' x y); below = mod-lt x low }
+    let low : 0 < y = reduced_low b d c.get-to_rate.ensures.low c.gcd-divisor.ensures.divides.1 in record {
+      from_low = reduced_low a d c.get-from_rate.ensures.low c.gcd-divisor.ensures.divides.0;
+      from_high = omega (arith, div-le_self a d);
+      to_low = low;
+      to_high = omega (arith, div-le_self b d);
+      divided = omega (arith, div-add-mod' x y);
+      below = mod-lt x low;
+    }
 
 pub returns : goal.returns
 returns c = record { from = cc; to = cc }
