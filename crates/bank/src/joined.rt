@@ -22,6 +22,7 @@ fn anew(answer: Option<f32>) -> Option<f32>
 }
 
 // A bank, and its last list where there is a number left for it.
+#[derive(Drop)]
 pub struct Joined<B, S> {
     bank: B,
     last: UniformSourceIterator<S>,

@@ -2,12 +2,13 @@
 ghost use Rattle.std.specs.Prelude.{◌≡◌};
 ghost use Rattle.buffer.specs.Refusals.{buffer_number};
 
-#[derive(Clone, Copy)]
+#[derive(Clone, Copy, Debug, PartialEq, Eq, Hash)]
 pub enum BufferRefusal {
     TooManyCells,
 }
 
 impl BufferRefusal {
+    // The number that the panel shows.
     pub fn number(&self) -> u8
         ensures answer { result ≡ buffer_number self.now }
     {

@@ -28,17 +28,13 @@ impl Fnv {
     pub fn add(&mut self, bits: u32)
         ensures after { self.new.hash ≡ fnv_sample self.old.hash bits }
     {
-        let bytes = bits.to_le_bytes();
-        let mut hash = mixed(self.hash, bytes[0]);
-        hash = mixed(hash, bytes[1]);
-        hash = mixed(hash, bytes[2]);
-        self.hash = mixed(hash, bytes[3]);
+        let mix = |hash, byte: &u8| mixed(hash, *byte);
+        self.hash = bits.to_le_bytes().iter().fold(self.hash, mix);
     }
 
     pub fn hash(self) -> u64
         ensures answer { result ≡ self.hash }
     {
-        let Fnv { hash } = self;
-        hash
+        self.hash
     }
 }

@@ -18,10 +18,7 @@ pub fn number(word: &str) -> Result<u64, Fault>
     ensures answer { ParsesUnsigned 64 10 word.now result }
     ensures refused { IfErr result (λ e. e ≡ NotANumber) }
 {
-    match word.parse::<u64>() {
-        Ok(n) => Ok(n),
-        Err(_) => Err(Fault::NotANumber),
-    }
+    word.parse().map_err(|_| Fault::NotANumber)
 }
 
 // A sample by its bits, in eight hexadecimal digits.
@@ -29,17 +26,13 @@ pub fn sample(word: &str) -> Result<f32, Fault>
     ensures answer { OkIff result ((length word.now ≡ 8) × IsNumeral 16 word.now) (from_bits binary32 (digits_value 16 word.now)) }
     ensures refused { IfErr result (λ e. e ≡ NotASample) }
 {
-    let bytes = word.as_bytes();
-    if bytes.len() != 8 {
+    if word.len() != 8 || word.starts_with('+') {
         return Err(Fault::NotASample);
     }
-    if bytes[0] == b'+' {
+    let Ok(bits) = u32::from_str_radix(word, 16) else {
         return Err(Fault::NotASample);
-    }
-    match u32::from_str_radix(word, 16) {
-        Ok(bits) => Ok(f32_from_bits_with_nan(bits)),
-        Err(_) => Err(Fault::NotASample),
-    }
+    };
+    Ok(f32_from_bits_with_nan(bits))
 }
 
 // The samples 0, 1, 2 .., n of them.
@@ -51,9 +44,5 @@ pub fn ramp(heap: Global, n: u64) -> Result<Vec<f32>, Fault>
     if n > LONGEST_LIST {
         return Err(Fault::ListTooLong);
     }
-    let mut samples = Vec::new(heap);
-    for i in 0..n {
-        samples.push(i as f32)?;
-    }
-    Ok(samples)
+    Ok((0..n).map(|i| i as f32).collect(heap)?)
 }

@@ -1,11 +1,23 @@
 // A length of time in whole nanoseconds, in 64 bits.
-pub mod nanos;
-
-ghost use Rattle.std.specs.Prelude.{◌<◌};
+ghost use Rattle.std.specs.Prelude.{◌≡◌, ◌<◌};
 ghost use Rattle.common.specs.Limits.{duration_end};
 
-#[derive(Clone, Copy)]
+#[derive(Clone, Copy, Debug, PartialEq, Eq, PartialOrd, Ord, Hash)]
 pub struct Duration {
     nanos: u64,
     ghost fits: { nanos < duration_end },
+}
+
+impl Duration {
+    pub fn from_nanos(nanos: u64) -> Duration
+        ensures answer { result.nanos ≡ nanos }
+    {
+        Duration { nanos }
+    }
+
+    pub fn as_nanos(self) -> u64
+        ensures answer { result ≡ self.nanos }
+    {
+        self.nanos
+    }
 }

@@ -2,13 +2,14 @@
 ghost use Rattle.std.specs.Prelude.{◌≡◌};
 ghost use Rattle.common.specs.Refusals.{format_number};
 
-#[derive(Clone, Copy)]
+#[derive(Clone, Copy, Debug, PartialEq, Eq, Hash)]
 pub enum FormatRefusal {
     RateOutOfRange,
     ChannelsOutOfRange,
 }
 
 impl FormatRefusal {
+    // The number that the panel shows.
     pub fn number(&self) -> u8
         ensures answer { result ≡ format_number self.now }
     {

@@ -1,4 +1,1 @@
-pub mod Answering
-pub mod Hearing
-pub mod Judging
 pub mod Writing

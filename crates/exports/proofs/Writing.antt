@@ -1,13 +1,8 @@
--- Writing a list over cells, and how many cells may be converted.
-use Rattle.std.proofs.Common.{◌≡◌, ℕ, zero, suc, ◌+◌, ◌<◌, ◌≤◌, min, List, [], ◌∷◌, ◌++◌, map, length, take, drop, set, Some, sym, ap, ◌∙◌, ⊎_elim, add-one, arith}
-use lib.Ieee.{Float}
-use lib.Seq.{take-nil}
+-- Writing a list over cells.
+use Rattle.std.proofs.Common.{◌≡◌, ℕ, zero, suc, ◌+◌, ◌<◌, ◌≤◌, min, List, [], ◌∷◌, ◌++◌, length, take, drop, set, Some, sym, ap, ◌∙◌, ⊎_elim, add-one, arith}
 use Rattle.std.proofs.lemmas.List.{take_all, drop_all}
-use Rattle.std.proofs.lemmas.Bool.{cases_lt, lt-leb, le-leb}
+use Rattle.std.proofs.lemmas.Bool.{cases_lt}
 use Rattle.source.specs.Samples.{first}
-use Rattle.buffer.specs.Refusals.{max_cells}
-use Rattle.exports.specs.Answers.{unless_refused}
-use Rattle.exports.specs.Cells.{from_cells}
 use Rattle.exports.specs.Written.{written}
 
 -- one more written
@@ -39,19 +34,3 @@ write_end i xs o e = ⊎_elim (λ h. full h) (λ h. through h) (cases_lt (length
         let l : i ≡ length xs = omega arith in
         ap (λ k. take k xs ++ drop k o) l
         ∙ ap (λ l. l ++ drop (length xs) o) (take_all (length xs) xs (omega arith) ∙ sym (take_all (length o) xs (omega arith)))
-
--- nothing of an empty list
-pub written_none : {l : List Float} (o : List Float) → l ≡ [] → (0 ≡ min (length o) (length l)) × (o ≡ written l o)
-written_none o e = (omega (arith, ap length e), ap (λ l. l ++ o) (sym (take-nil (length o))) ∙ ap (λ l. written l o) (sym e))
-
--- one list for another
-pub written_as : {l m : List Float} (n : ℕ) (p o : List Float) → l ≡ m → n ≡ min (length o) (length l) → p ≡ written l o → (n ≡ min (length o) (length m)) × (p ≡ written m o)
-written_as n p o e a b = (a ∙ ap (λ l. min (length o) (length l)) e, b ∙ ap (λ l. written l o) e)
-
--- too many cells convert to nothing
-pub too_many : {K : Type 0} (of : K → Float) (conversion : List Float → List Float) (cells : List K) → max_cells < length cells → from_cells of conversion cells ≡ []
-too_many of conversion cells h = ap (λ b. unless_refused b (conversion (map of cells))) (lt-leb (length cells) max_cells h)
-
--- and no more than the limit to what they are converted to
-pub few_enough : {K : Type 0} (of : K → Float) (conversion : List Float → List Float) (cells : List K) → length cells ≤ max_cells → from_cells of conversion cells ≡ conversion (map of cells)
-few_enough of conversion cells h = ap (λ b. unless_refused b (conversion (map of cells))) (le-leb (length cells) max_cells h)

@@ -9,12 +9,11 @@ pub(crate) fn drain<S: Samples>(input: &mut S, out: &mut [f32]) -> usize
     ensures answer { result ≡ min (length out.old) (length (S.samples input.old)) }
     ensures cells { out.new ≡ written (S.samples input.old) out.old }
 {
-    let n = out.len();
-    for i in 0..n {
+    for (i, cell) in out.iter_mut().enumerate() {
         match input.next() {
-            Some(x) => out[i] = x,
+            Some(sample) => *cell = sample,
             None => return i,
         }
     }
-    n
+    out.len()
 }

@@ -1,5 +1,5 @@
 -- The figures that can be checked by hand, as a list.
-use Rattle.std.specs.Prelude.{◌≡◌, ℕ, false, List, [], ◌∷◌, map, pos, negsuc, Float}
+use Rattle.std.specs.Prelude.{◌≡◌, ℕ, false, List, [], ◌∷◌, map, Some, None, Ok, Err, pos, negsuc, Float}
 use Rattle.std.specs.Float.{binary32, fin}
 use Rattle.std.specs.Float.Ieee.{of_int}
 use Rattle.source.specs.Samples.{silence}
@@ -8,7 +8,8 @@ use Rattle.channels.specs.Channels.{channels_converted}
 use Rattle.law.specs.declared.Call.{Call}
 use Rattle.law.specs.declared.Call.TheVariants.{Add, Next}
 use Rattle.law.specs.declared.Reply.{Reply}
-use Rattle.law.specs.declared.Reply.TheVariants.{Added, AlreadyAdded, Sample, End}
+use Rattle.law.specs.declared.Reply.TheVariants.{Add as AddReply, Next as NextReply}
+use Rattle.law.specs.declared.refusal.AddRefusal.TheVariants.{AlreadyAdded}
 use Rattle.law.specs.Mixing.{replies}
 
 -- A figure: what goes into a conversion, or which calls are made on a mixer over which lists, and what comes out.
@@ -40,6 +41,16 @@ quarter = fin false 1 (negsuc 1)
 abbrev pub large : Float
 large = fin false 1 (pos 24)
 
+-- What is replied to an add that is taken, and to a next.
+abbrev pub added : Reply
+added = AddReply (Ok tt)
+
+abbrev pub end : Reply
+end = NextReply None
+
+abbrev pub sample : Float → Reply
+sample x = NextReply (Some x)
+
 -- The figures, in the order in which docs/RULES.md has them.
 abbrev pub figures : List Figure
 figures =
@@ -50,7 +61,7 @@ figures =
     ∷ channel 1 3 (wholes (5 ∷ [])) (wholes (5 ∷ 5 ∷ 0 ∷ []))
     ∷ channel 3 2 (wholes (1 ∷ 2 ∷ 3 ∷ 4 ∷ [])) (wholes (1 ∷ 2 ∷ 4 ∷ []))
     ∷ mix 2 ((half ∷ quarter ∷ []) ∷ []) (Next ∷ Add 0 ∷ Next ∷ Add 0 ∷ Next ∷ Next ∷ Next ∷ [])
-    (End ∷ Added ∷ End ∷ AlreadyAdded ∷ Sample half ∷ Sample quarter ∷ End ∷ [])
+    (end ∷ added ∷ end ∷ AddReply (Err AlreadyAdded) ∷ sample half ∷ sample quarter ∷ end ∷ [])
     ∷ mix 1 ((large ∷ []) ∷ (one ∷ []) ∷ (one ∷ []) ∷ []) (Add 0 ∷ Add 1 ∷ Add 2 ∷ Next ∷ [])
-    (Added ∷ Added ∷ Added ∷ Sample large ∷ [])
+    (added ∷ added ∷ added ∷ sample large ∷ [])
     ∷ []

@@ -1,5 +1,5 @@
 -- The isolation of mixers: one source's values in one channel change no answer of another channel, and no kind of answer.
-use Rattle.std.proofs.Common.{◌≡◌, ℕ, ◌+◌, ◌-◌, ◌*◌, ◌/◌, ◌%◌, ◌≤◌, Bool, true, false, cond, leb, List, [], ◌∷◌, ◌++◌, map, length, get_or, take, drop, refl, ap, ◌∙◌, subst, ap₂, inl, inr, arith, length-append}
+use Rattle.std.proofs.Common.{◌≡◌, ℕ, ◌+◌, ◌-◌, ◌*◌, ◌/◌, ◌%◌, ◌≤◌, Bool, true, false, cond, leb, List, [], ◌∷◌, ◌++◌, map, length, get_or, take, drop, Some, None, refl, ap, ◌∙◌, subst, ap₂, inl, inr, arith, length-append}
 use native.Mathlib.Nat.{mul-add-mod_self_right}
 use lib.Ieee.{Float}
 use lib.ListN.{get_or-map}
@@ -11,7 +11,7 @@ use Rattle.law.specs.Mixing.{Accepted, accepted, frame_start, term, terms, sum_o
 use Rattle.law.specs.declared.Call.{Call}
 use Rattle.law.specs.declared.Call.TheVariants.{Add, Next}
 use Rattle.law.specs.declared.Reply.{Reply}
-use Rattle.law.specs.declared.Reply.TheVariants.{Sample, End, Added, AlreadyAdded, NoSuchSource}
+use Rattle.law.specs.declared.Reply.TheVariants.{Add as AddReply, Next as NextReply}
 use Rattle.source.specs.Samples.{silence}
 use Rattle.source.specs.Spans.{Span}
 use Rattle.uniform.specs.Pieces.{Piece, pieces}
@@ -74,13 +74,11 @@ same_kind_refl : (r s : Reply) → r ≡ s → SameKind r s
 same_kind_refl r s e = subst (SameKind r) e (go r)
   where
     go : (r : Reply) → SameKind r r
-    go Added = refl
-    go NoSuchSource = refl
-    go AlreadyAdded = refl
-    go (Sample x) = tt
-    go End = refl
+    go (AddReply a) = refl
+    go (NextReply None) = refl
+    go (NextReply (Some x)) = tt
 
-same_kind_sum : (xs ys : List Float) → length xs ≡ length ys → SameKind (sum_or_end xs) (sum_or_end ys)
+same_kind_sum : (xs ys : List Float) → length xs ≡ length ys → SameKind (NextReply (sum_or_end xs)) (NextReply (sum_or_end ys))
 same_kind_sum [] [] l = refl
 same_kind_sum [] (y ∷ ys) l = let no_way : ⊥ = omega arith in absurd no_way
 same_kind_sum (x ∷ xs) [] l = omega arith
@@ -120,10 +118,10 @@ module _ (m rate S d : ℕ) (ps qs : List (List Span)) (like : Like S d ps qs) w
 
   one-reply : (h : List Call) (c : Call) →
       SameKind (reply m left h c) (reply m right h c) × ((answers h % m ≡ d → ⊥) → reply m left h c ≡ reply m right h c)
-  one-reply h (Add i) = let e = ap (λ (n : ℕ). verdict n i h) count_same in (same_kind_refl _ _ e, λ _. e)
+  one-reply h (Add i) = let e = ap (λ (n : ℕ). AddReply (verdict n i h)) count_same in (same_kind_refl _ _ e, λ _. e)
   one-reply h Next =
       let r = alike_terms h (answers h) in
-      (same_kind_sum _ _ r.as_many, λ o. ap sum_or_end (r.the_same o))
+      (same_kind_sum _ _ r.as_many, λ o. ap (λ ts. NextReply (sum_or_end ts)) (r.the_same o))
 
 pub isolated : Isolated
 isolated m rate S d ps qs h c one like = one-reply m rate S d ps qs like h c

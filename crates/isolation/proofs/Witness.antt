@@ -1,12 +1,12 @@
 -- Sources that are alike but for the second channel, and answers that differ there.
-use Rattle.std.proofs.Common.{◌≡◌, ℕ, zero, suc, ◌%◌, false, List, [], ◌∷◌, map, get_or, pos, sym, refl, ap, ◌∙◌, arith}
+use Rattle.std.proofs.Common.{◌≡◌, ℕ, zero, suc, ◌%◌, false, List, [], ◌∷◌, map, get_or, pos, Some, None, sym, refl, ap, ◌∙◌, arith}
 use lib.Ieee.{Float, nan, inf, fin, binary32, of_int, add, round, sum, units, odd, sub, mul, div, neg, size, span, climb}
 use lib.Count.{count_trailing_zeros}
 use Rattle.law.specs.Mixing.{reply}
 use Rattle.law.specs.declared.Call.{Call}
 use Rattle.law.specs.declared.Call.TheVariants.{Add, Next}
 use Rattle.law.specs.declared.Reply.{Reply}
-use Rattle.law.specs.declared.Reply.TheVariants.{Added, NoSuchSource, AlreadyAdded, Sample, End}
+use Rattle.law.specs.declared.Reply.TheVariants.{Add as AddReply, Next as NextReply}
 use Rattle.source.specs.Samples.{silence}
 use Rattle.source.specs.Spans.{Span}
 use Rattle.uniform.specs.Uniform.{uniform}
@@ -54,27 +54,25 @@ calls = Next ∷ Add 0 ∷ Next ∷ Next ∷ Next ∷ Next ∷ []
 abbrev at : List (List Span) → Reply
 at ss = reply 2 (map (uniform 2 2) ss) calls Next
 
-left : at ps ≡ Sample (n 3)
+left : at ps ≡ NextReply (Some (n 3))
 unfolding of_int round sum units odd add sub mul div neg size span climb count_trailing_zeros
 left = refl
 
-right : at qs ≡ Sample (n 7)
+right : at qs ≡ NextReply (Some (n 7))
 unfolding of_int round sum units odd add sub mul div neg size span climb count_trailing_zeros
 right = refl
 
 -- the digits of a reply, by which two samples are told apart
 digits : Reply → ℕ
-digits (Sample x) = elim x as (λ _. ℕ) [ nan ↦ 0 | inf s ↦ 0 | fin s m e ↦ m ]
-digits Added = 0
-digits NoSuchSource = 0
-digits AlreadyAdded = 0
-digits End = 0
+digits (NextReply (Some x)) = elim x as (λ _. ℕ) [ nan ↦ 0 | inf s ↦ 0 | fin s m e ↦ m ]
+digits (NextReply None) = 0
+digits (AddReply a) = 0
 
-three : digits (Sample (n 3)) ≡ 3
+three : digits (NextReply (Some (n 3))) ≡ 3
 unfolding digits of_int round sum units odd add sub mul div neg size span climb count_trailing_zeros
 three = refl
 
-seven : digits (Sample (n 7)) ≡ 7
+seven : digits (NextReply (Some (n 7))) ≡ 7
 unfolding digits of_int round sum units odd add sub mul div neg size span climb count_trailing_zeros
 seven = refl
 

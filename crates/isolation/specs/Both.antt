@@ -1,8 +1,8 @@
 -- Isolation of two mixers under the same calls.
-use Rattle.std.specs.Prelude.{◌≡◌, ℕ, ◌%◌, ◌<◌, List, ◌++◌, map, length, take, ◌≢◌, slice_index_or, Float}
+use Rattle.std.specs.Prelude.{◌≡◌, ℕ, ◌%◌, ◌<◌, List, ◌++◌, map, length, take, None, ◌≢◌, slice_index_or, Float}
 use Rattle.law.specs.declared.Call.{Call}
 use Rattle.law.specs.declared.Reply.{Reply}
-use Rattle.law.specs.declared.Reply.TheVariants.{End}
+use Rattle.law.specs.declared.Reply.TheVariants.{Next}
 use Rattle.law.specs.Mixing.{answers}
 use Rattle.source.specs.Spans.{Span}
 use Rattle.uniform.specs.Uniform.{uniform}
@@ -18,4 +18,4 @@ IsolatedRuns of-a of-b cs x y rs ss =
     (m rate S d : ℕ) (ps qs : List (List Span)) (h : List Call) → Like S d ps qs →
     Follows of-a m (map (uniform m rate) ps) h x → Follows of-b m (map (uniform m rate) qs) h y →
     (k : ℕ) → k < length cs →
-    SameKind (slice_index_or rs k End) (slice_index_or ss k End) × ((answers (h ++ take k cs) % m ≢ d) → slice_index_or rs k End ≡ slice_index_or ss k End)
+    SameKind (slice_index_or rs k (Next None)) (slice_index_or ss k (Next None)) × ((answers (h ++ take k cs) % m ≢ d) → slice_index_or rs k (Next None) ≡ slice_index_or ss k (Next None))

@@ -1,10 +1,10 @@
 -- The law of isolation: two mixers under the same calls whose sources agree but for the values of one source in one channel.
-use Rattle.std.specs.Prelude.{◌≡◌, ℕ, ◌%◌, ◌<◌, ◌≤◌, List, [], ◌∷◌, map, length, ◌≢◌, slice_index_or}
+use Rattle.std.specs.Prelude.{◌≡◌, ℕ, ◌%◌, ◌<◌, ◌≤◌, List, [], ◌∷◌, map, length, Some, None, ◌≢◌, slice_index_or}
 use Rattle.std.specs.List.{AllByRecursion}
 use Rattle.law.specs.Mixing.{reply, answers}
 use Rattle.law.specs.declared.Call.{Call}
 use Rattle.law.specs.declared.Reply.{Reply}
-use Rattle.law.specs.declared.Reply.TheVariants.{Sample, End, Added, AlreadyAdded, NoSuchSource}
+use Rattle.law.specs.declared.Reply.TheVariants.{Add, Next}
 use Rattle.source.specs.Samples.{silence}
 use Rattle.source.specs.Spans.{Span}
 use Rattle.uniform.specs.Pieces.{Piece, pieces}
@@ -29,15 +29,11 @@ WholeFrames p = (2 ≤ p.channels) × (length p.samples % p.channels ≡ 0)
 
 -- Replies of one kind: both a sample, or the same.
 abbrev pub SameKind : Reply → Reply → Type 0
-SameKind (Sample x) (Sample y) = Unit {0}
-SameKind (Sample x) End = ⊥
-SameKind (Sample x) Added = ⊥
-SameKind (Sample x) NoSuchSource = ⊥
-SameKind (Sample x) AlreadyAdded = ⊥
-SameKind End r = End ≡ r
-SameKind Added r = Added ≡ r
-SameKind NoSuchSource r = NoSuchSource ≡ r
-SameKind AlreadyAdded r = AlreadyAdded ≡ r
+SameKind (Next (Some x)) (Next (Some y)) = Unit {0}
+SameKind (Next (Some x)) (Next None) = ⊥
+SameKind (Next (Some x)) (Add r) = ⊥
+SameKind (Next None) s = Next None ≡ s
+SameKind (Add r) s = Add r ≡ s
 
 -- Sources, by their spans, that are the same but for number S, whose pieces differ at most in the values of channel d.
 pub record Like (S d : ℕ) (ps qs : List (List Span)) : Type 0 where

@@ -1,19 +1,22 @@
-// Sources in a vector, handed out from its front.
+// Sources in a queue, handed out from its front.
 ghost use Rattle.std.specs.Prelude.{◌≡◌, map};
 
 use crate::Queue;
 use source::Source;
+use std::collections::VecDeque;
 
 #[derive(Drop)]
 pub struct SourceList<S> {
-    sources: Vec<S>,
+    sources: VecDeque<S>,
 }
 
 impl<S: Source + Drop> SourceList<S> {
     pub fn new(sources: Vec<S>) -> SourceList<S>
-        ensures answer { result.sources ≡ sources }
+        ensures answer { result.sources.items ≡ sources.items }
     {
-        SourceList { sources }
+        SourceList {
+            sources: VecDeque::from(sources),
+        }
     }
 }
 
@@ -23,9 +26,6 @@ impl<S: Source + Drop> Queue for SourceList<S> {
     ghost waiting = { λ q. map (λ s. (S.meaning s).spans) q.sources.items };
 
     fn next_source(&mut self) -> Option<S> {
-        if self.sources.is_empty() {
-            return None;
-        }
-        Some(self.sources.remove(0))
+        self.sources.pop_front()
     }
 }

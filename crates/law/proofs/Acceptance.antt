@@ -2,7 +2,7 @@
 use Rattle.std.proofs.Common.{◌≡◌, ℕ, zero, suc, ◌+◌, ◌<◌, ◌≤◌, Bool, true, false, cond, not, ◌&&◌, ◌||◌, eqb, ltb, List, [], ◌∷◌, ◌++◌, length, get_or, sym, refl, ap, subst, arith}
 use Rattle.std.specs.List.{AllByRecursion}
 use Rattle.std.proofs.ByRecursion.{All-get_or, All-weaker}
-use Rattle.std.proofs.lemmas.Bool.{ltb-true, lt-ltb, eqb-true, eqb-false, eq-eqb, not-true, and_parts, and_from, not_from_false, or_parts}
+use Rattle.std.proofs.lemmas.Bool.{ltb-true, lt-ltb, eqb-true, eqb-false, eq-eqb, not-true, and_parts, and_from, not_from_false, or_parts, or_right}
 use Rattle.law.specs.declared.Call.{Call}
 use Rattle.law.specs.declared.Call.TheVariants.{Add, Next}
 use Rattle.law.specs.Asked.{Within, Found, AcceptedOnce}
@@ -15,15 +15,11 @@ pub record Sound (count : ℕ) (past h : List Call) (a : Accepted) : Type 0 wher
   pub named : names a.number h ≡ true
   pub early : a.after ≤ answers past + answers h
 
-or_later : (b c : Bool) → c ≡ true → (b || c) ≡ true
-or_later true c e = refl
-or_later false c e = e
-
 sound_on : (count i : ℕ) (past h : List Call) (a : Accepted) → Sound count (Add i ∷ past) h a → Sound count past (Add i ∷ h) a
 sound_on count i past h a s = record {
   below = s.below;
   fresh = (or_parts (eqb a.number i) (names a.number past) s.fresh).1;
-  named = or_later (eqb a.number i) (names a.number h) s.named;
+  named = or_right (eqb a.number i) (names a.number h) s.named;
   early = s.early;
 }
 

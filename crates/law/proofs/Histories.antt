@@ -1,6 +1,7 @@
 -- What one more call does to the answers, the names and the accepted sources of a list of calls.
 use Rattle.std.proofs.Common.{◌≡◌, ℕ, suc, ◌+◌, Bool, true, false, cond, not, ◌&&◌, ◌||◌, eqb, ltb, List, [], ◌∷◌, ◌++◌, sym, refl, ap, ◌∙◌, add-zero, zero-add, arith}
 use Rattle.std.proofs.lemmas.List.{append-nil, append_assoc}
+use Rattle.std.proofs.Math.Bool.{or-false, or_assoc}
 use Rattle.law.specs.declared.Call.{Call}
 use Rattle.law.specs.declared.Call.TheVariants.{Add, Next}
 use Rattle.law.specs.Mixing.{answers, names, Accepted, accepted_since, accepted}
@@ -15,22 +16,14 @@ answers_next [] = refl
 answers_next (Add j ∷ h) = answers_next h
 answers_next (Next ∷ h) = ap suc (answers_next h)
 
-or_nothing : (b : Bool) → (b || false) ≡ b
-or_nothing true = refl
-or_nothing false = refl
-
-or_apart : (a b c : Bool) → ((a || b) || c) ≡ (a || (b || c))
-or_apart true b c = refl
-or_apart false b c = refl
-
-or_swaps : (a b c : Bool) → ((a || b) || c) ≡ (b || (a || c))
+pub or_swaps : (a b c : Bool) → ((a || b) || c) ≡ (b || (a || c))
 or_swaps true true c = refl
 or_swaps true false c = refl
 or_swaps false b c = refl
 
 pub names_add : (i j : ℕ) (h : List Call) → names i (h ++ (Add j ∷ [])) ≡ (names i h || eqb i j)
-names_add i j [] = or_nothing (eqb i j)
-names_add i j (Add k ∷ h) = ap (λ (b : Bool). eqb i k || b) (names_add i j h) ∙ sym (or_apart (eqb i k) (names i h) (eqb i j))
+names_add i j [] = or-false (eqb i j)
+names_add i j (Add k ∷ h) = ap (λ (b : Bool). eqb i k || b) (names_add i j h) ∙ sym (or_assoc (eqb i k) (names i h) (eqb i j))
 names_add i j (Next ∷ h) = names_add i j h
 
 pub names_next : (i : ℕ) (h : List Call) → names i (h ++ (Next ∷ [])) ≡ names i h
@@ -44,7 +37,7 @@ newly count i b n = cond (ltb i count && not b) (record { number = i; after = n 
 
 since_add : (count i : ℕ) (past h : List Call) →
     accepted_since count past (h ++ (Add i ∷ [])) ≡ accepted_since count past h ++ newly count i (names i past || names i h) (answers past + answers h)
-since_add count i past [] = rw (append-nil, or_nothing (names i past), add-zero (answers past))
+since_add count i past [] = rw (append-nil, or-false (names i past), add-zero (answers past))
 since_add count i past (Next ∷ h) = since_add count i (Next ∷ past) h ∙
     ap (λ (n : ℕ). accepted_since count (Next ∷ past) h ++ newly count i (names i past || names i h) n) (omega arith)
 since_add count i past (Add j ∷ h) =

@@ -1,5 +1,6 @@
 pub mod Acceptance
 pub mod Histories
+pub mod Printing
 pub mod Refusals
 pub mod Room
 pub mod Runs

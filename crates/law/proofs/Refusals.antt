@@ -1,12 +1,14 @@
 -- A refused add leaves no trace.
-use Rattle.std.proofs.Common.{◌≡◌, ℕ, suc, ◌+◌, Bool, true, false, cond, not, ◌&&◌, ◌||◌, eqb, ltb, ◌⊎◌, List, [], ◌∷◌, ◌++◌, length, is_some, sym, refl, ap, ◌∙◌, ap₂, inl, inr, ⊎_elim, arith}
+use Rattle.std.proofs.Common.{◌≡◌, ℕ, suc, ◌+◌, Bool, true, false, cond, not, ◌&&◌, ◌||◌, eqb, ltb, ◌⊎◌, List, [], ◌∷◌, ◌++◌, length, is_some, Ok, Err, sym, refl, ap, ◌∙◌, ap₂, inl, inr, ⊎_elim, arith}
 use lib.Ieee.{Float}
 use Rattle.std.specs.List.{flat_map}
 use Rattle.std.proofs.lemmas.List.{append-nil, append_assoc}
+use Rattle.std.proofs.Math.Bool.{or-false, or_assoc, or_comm}
 use Rattle.std.proofs.lemmas.Bool.{cases_Bool, cases_eq, cond-true, cond-false, ne_eqb, and_left, and_right, true≢false}
 use Rattle.law.specs.declared.Call.{Call}
 use Rattle.law.specs.declared.Call.TheVariants.{Add, Next}
-use Rattle.law.specs.declared.Reply.TheVariants.{Added, NoSuchSource, AlreadyAdded}
+use Rattle.law.specs.declared.Reply.TheVariants.{Add as AddReply, Next as NextReply}
+use Rattle.law.specs.declared.refusal.AddRefusal.TheVariants.{NoSuchSource, AlreadyAdded}
 use Rattle.law.specs.Asked.{RefusedChangesNothing}
 use Rattle.law.specs.Mixing.{Accepted, answers, names, accepted_since, accepted, term, terms, sum_or_end, verdict}
 use Rattle.law.specs.Numbers.{refusal_number}
@@ -17,13 +19,9 @@ answers-append [] h = omega arith
 answers-append (Add i ∷ g) h = answers-append g h
 answers-append (Next ∷ g) h = omega (arith, answers-append g h)
 
-or_apart : (a b c : Bool) → ((a || b) || c) ≡ (a || (b || c))
-or_apart true b c = refl
-or_apart false b c = refl
-
 names-append : (j : ℕ) (g h : List Call) → names j (g ++ h) ≡ (names j g || names j h)
 names-append j [] h = refl
-names-append j (Add i ∷ g) h = ap (λ (b : Bool). eqb j i || b) (names-append j g h) ∙ sym (or_apart (eqb j i) (names j g) (names j h))
+names-append j (Add i ∷ g) h = ap (λ (b : Bool). eqb j i || b) (names-append j g h) ∙ sym (or_assoc (eqb j i) (names j g) (names j h))
 names-append j (Next ∷ g) h = names-append j g h
 
 -- the calls of a list put before those of the past, the newest first
@@ -36,15 +34,10 @@ unfolding pasts
 pasts_push past [] c = refl
 pasts_push past (d ∷ h) c = pasts_push (d ∷ past) h c
 
-or_swap : (a b c : Bool) → (a || (b || c)) ≡ (b || (a || c))
-or_swap true true c = refl
-or_swap true false c = refl
-or_swap false b c = refl
-
 names_pasts : (j : ℕ) (past h : List Call) → names j (pasts past h) ≡ (names j h || names j past)
 unfolding pasts
 names_pasts j past [] = refl
-names_pasts j past (Add i ∷ h) = names_pasts j (Add i ∷ past) h ∙ or_swap (names j h) (eqb j i) (names j past) ∙ sym (or_apart (eqb j i) (names j h) (names j past))
+names_pasts j past (Add i ∷ h) = names_pasts j (Add i ∷ past) h ∙ sym (or_assoc (names j h) (eqb j i) (names j past)) ∙ ap (λ (b : Bool). b || names j past) (or_comm (names j h) (eqb j i))
 names_pasts j past (Next ∷ h) = names_pasts j (Next ∷ past) h
 
 since_append : (count : ℕ) (past g h : List Call) → accepted_since count past (g ++ h) ≡ accepted_since count past g ++ accepted_since count (pasts past g) h
@@ -79,14 +72,14 @@ since_even count p q (Add k ∷ h) e =
 Refused : ℕ → ℕ → List Call → Type 0
 Refused count i h = (ltb i count ≡ false) ⊎ (names i h ≡ true)
 
-is_refused : (count i : ℕ) (h : List Call) → is_some (refusal_number (verdict count i h)) ≡ true → Refused count i h
+is_refused : (count i : ℕ) (h : List Call) → is_some (refusal_number (AddReply (verdict count i h))) ≡ true → Refused count i h
 unfolding Refused
 is_refused count i h e = ⊎_elim
     (λ (t : ltb i count ≡ true). ⊎_elim
     (λ (n : names i h ≡ true). inr n)
     (λ (n : names i h ≡ false).
-    let v : verdict count i h ≡ Added = cond-true (ltb i count) _ _ t ∙ cond-false (names i h) _ _ n in
-    absurd (true≢false (sym e ∙ ap (λ r. is_some (refusal_number r)) v)))
+    let v : verdict count i h ≡ Ok tt = cond-true (ltb i count) _ _ t ∙ cond-false (names i h) _ _ n in
+    absurd (true≢false (sym e ∙ ap (λ r. is_some (refusal_number (AddReply r))) v)))
     (cases_Bool (names i h)))
     (λ (t : ltb i count ≡ false). inl t)
     (cases_Bool (ltb i count))
@@ -99,14 +92,10 @@ names_same count i j h b r t e = ⊎_elim
     (λ (f : ltb i count ≡ false). absurd (true≢false (sym t ∙ ap (λ n. ltb n count) same ∙ f)))
     (λ (n : names i h ≡ true).
     let w : b ≡ true = sym e ∙ ap (λ k. names k h) same ∙ n in
-    ap (λ (x : Bool). eqb j i || x) w ∙ or_true (eqb j i) ∙ sym w)
+    ap (λ (x : Bool). eqb j i || x) w ∙ or_comm (eqb j i) true ∙ sym w)
     r)
     (λ (other : j ≡ i → ⊥). ap (λ (x : Bool). x || b) (ne_eqb j i other))
     (cases_eq j i)
-  where
-    or_true : (x : Bool) → (x || true) ≡ true
-    or_true true = refl
-    or_true false = refl
 
 newly_none : (count i n : ℕ) (h : List Call) → Refused count i h → newly count i (names i h) n ≡ []
 unfolding Refused
@@ -119,12 +108,8 @@ module _ (count i : ℕ) (h : List Call) (r : Refused count i h) where
   even : Even count (pasts [] (h ++ (Add i ∷ []))) (pasts [] h)
   even = record {
     given = ap answers (pasts_push [] h (Add i));
-    named = λ j t. ap (names j) (pasts_push [] h (Add i)) ∙ names_same count i j h (names j (pasts [] h)) r t (sym (names_pasts j [] h ∙ or_false (names j h)));
+    named = λ j t. ap (names j) (pasts_push [] h (Add i)) ∙ names_same count i j h (names j (pasts [] h)) r t (sym (names_pasts j [] h ∙ or-false (names j h)));
   }
-    where
-      or_false : (b : Bool) → (b || false) ≡ b
-      or_false true = refl
-      or_false false = refl
 
   accepted_same : (later : List Call) → accepted count ((h ++ (Add i ∷ [])) ++ later) ≡ accepted count (h ++ later)
   accepted_same later =
@@ -138,29 +123,23 @@ module _ (count i : ℕ) (h : List Call) (r : Refused count i h) where
 
   verdict_same : (later : List Call) (k : ℕ) → verdict count k ((h ++ (Add i ∷ [])) ++ later) ≡ verdict count k (h ++ later)
   verdict_same later k = ⊎_elim
-      (λ (t : ltb k count ≡ true). ap (λ b. cond (ltb k count) (cond b AlreadyAdded Added) NoSuchSource) (named t))
+      (λ (t : ltb k count ≡ true). ap (λ b. cond (ltb k count) (cond b (Err AlreadyAdded) (Ok tt)) (Err NoSuchSource)) (named t))
       (λ (t : ltb k count ≡ false). cond-false (ltb k count) _ _ t ∙ sym (cond-false (ltb k count) _ _ t))
       (cases_Bool (ltb k count))
     where
-      or_comm : (a b : Bool) → (a || b) ≡ (b || a)
-      or_comm true true = refl
-      or_comm true false = refl
-      or_comm false true = refl
-      or_comm false false = refl
-
       named : ltb k count ≡ true → names k ((h ++ (Add i ∷ [])) ++ later) ≡ names k (h ++ later)
       named t =
           names-append k (h ++ (Add i ∷ [])) later
           ∙ ap (λ b. b || names k later) (names_add k i h ∙ or_comm (names k h) (eqb k i) ∙ names_same count i k h (names k h) r t refl)
           ∙ sym (names-append k h later)
 
-no_refusal : (l : List Float) → is_some (refusal_number (sum_or_end l)) ≡ false
+no_refusal : (l : List Float) → is_some (refusal_number (NextReply (sum_or_end l))) ≡ false
 no_refusal [] = refl
 no_refusal (x ∷ l) = refl
 
 pub refused_changes_nothing_lem : RefusedChangesNothing
 refused_changes_nothing_lem m lists h Next later d e = absurd (true≢false (sym e ∙ no_refusal (terms m lists h (answers h))))
-refused_changes_nothing_lem m lists h (Add i) later (Add k) e = verdict_same (length lists) i h (is_refused (length lists) i h e) later k
+refused_changes_nothing_lem m lists h (Add i) later (Add k) e = ap AddReply (verdict_same (length lists) i h (is_refused (length lists) i h e) later k)
 refused_changes_nothing_lem m lists h (Add i) later Next e =
     let r = is_refused (length lists) i h e in
-    ap₂ (λ n took. sum_or_end (flat_map (term m lists n) took)) (answers_same (length lists) i h r later) (accepted_same (length lists) i h r later)
+    ap₂ (λ n took. NextReply (sum_or_end (flat_map (term m lists n) took))) (answers_same (length lists) i h r later) (accepted_same (length lists) i h r later)

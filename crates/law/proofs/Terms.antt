@@ -1,11 +1,11 @@
 -- What one source adds to an answer, and when an answer has nothing in it.
-use Rattle.std.proofs.Common.{◌≡◌, ℕ, ◌+◌, ◌-◌, ◌<◌, ◌≤◌, leb, List, [], ◌∷◌, ◌++◌, length, get_or, take, drop, sym, refl, ap, ◌∙◌, ap₂, inl, inr, ⊎_elim, arith, length-append}
+use Rattle.std.proofs.Common.{◌≡◌, ℕ, ◌+◌, ◌-◌, ◌<◌, ◌≤◌, leb, List, [], ◌∷◌, ◌++◌, length, get_or, take, drop, None, sym, refl, ap, ◌∙◌, ap₂, inl, inr, ⊎_elim, arith, length-append}
 use lib.Ieee.{Float}
 use Rattle.std.specs.List.{flat_map, AllByRecursion}
 use Rattle.std.proofs.lemmas.List.{drop_more, drop_all, nil_from_length}
 use Rattle.std.proofs.lemmas.Bool.{cases_lt, cond-true, cond-false, le-leb, lt-leb}
 use Rattle.source.specs.Samples.{silence}
-use Rattle.law.specs.declared.Reply.TheVariants.{End}
+use Rattle.law.specs.declared.Reply.TheVariants.{Next as NextReply}
 use Rattle.law.specs.Asked.{EntersOnce, Silent, EndsWhenSilent}
 use Rattle.law.specs.Mixing.{Accepted, answers, accepted, frame_start, term, terms, sum_or_end}
 
@@ -65,7 +65,7 @@ none_joined : {X : Type 0} (f : X → List Float) (P : X → Type 0) → ((x : X
 none_joined f P g [] h = refl
 none_joined f P g (x ∷ xs) h = ap₂ (λ a b. a ++ b) (g x h.0) (none_joined f P g xs h.1)
 
-sum_end : (l : List Float) → sum_or_end l ≡ End → l ≡ []
+sum_end : (l : List Float) → NextReply (sum_or_end l) ≡ NextReply None → l ≡ []
 sum_end [] e = refl
 sum_end (x ∷ l) e = let z : ◌≡◌ {A = ℕ} 0 1 = cc in absurd (omega arith)
 
@@ -74,5 +74,5 @@ ends_when_silent_lem m lists h =
     let q = answers h in
     let took = accepted (length lists) h in (
       λ e. joined_none (term m lists q) (Silent m lists q) (λ a. none_silent m lists a q) took (sum_end (terms m lists h q) e),
-      λ w. ap sum_or_end (none_joined (term m lists q) (Silent m lists q) (λ a. silent_none m lists a q) took w),
+      λ w. ap (λ l. NextReply (sum_or_end l)) (none_joined (term m lists q) (Silent m lists q) (λ a. silent_none m lists a q) took w),
     )

@@ -2,4 +2,5 @@ pub mod Asked
 pub mod Mixing
 pub mod Numbers
 pub mod Playing
+pub mod Text
 pub mod Told

@@ -1,5 +1,5 @@
 -- A mixer of m channels over lists of samples, by the calls made on it since it was made. No state of a mixer stands in here.
-use Rattle.std.specs.Prelude.{ℕ, suc, ◌+◌, ◌-◌, ◌*◌, ◌/◌, Bool, false, cond, not, ◌&&◌, ◌||◌, List, [], ◌∷◌, ◌++◌, length, take, drop, fold, ◌==◌, nat_le, nat_lt, slice_index_or, Float}
+use Rattle.std.specs.Prelude.{ℕ, suc, ◌+◌, ◌-◌, ◌*◌, ◌/◌, Bool, false, cond, not, ◌&&◌, ◌||◌, List, [], ◌∷◌, ◌++◌, length, take, drop, fold, Some, None, Ok, Err, Option, Result, ◌==◌, nat_le, nat_lt, slice_index_or, Float}
 use Rattle.std.specs.Float.{binary32}
 use Rattle.std.specs.Float.Ieee.{add}
 use Rattle.std.specs.List.{flat_map}
@@ -7,7 +7,9 @@ use Rattle.source.specs.Samples.{silence}
 use Rattle.law.specs.declared.Call.{Call}
 use Rattle.law.specs.declared.Call.TheVariants.{Add, Next}
 use Rattle.law.specs.declared.Reply.{Reply}
-use Rattle.law.specs.declared.Reply.TheVariants.{Added, NoSuchSource, AlreadyAdded, Sample, End}
+use Rattle.law.specs.declared.Reply.TheVariants.{Add as AddReply, Next as NextReply}
+use Rattle.law.specs.declared.refusal.AddRefusal.{AddRefusal}
+use Rattle.law.specs.declared.refusal.AddRefusal.TheVariants.{NoSuchSource, AlreadyAdded}
 
 -- How many answers a list of calls was given, ends included.
 abbrev pub answers : List Call → ℕ
@@ -57,18 +59,18 @@ abbrev pub terms : ℕ → List (List Float) → List Call → ℕ → List Floa
 terms m lists h q = flat_map (term m lists q) (accepted (length lists) h)
 
 -- The sum from 0.0 in that order, and the end where there is no term.
-abbrev pub sum_or_end : List Float → Reply
-sum_or_end [] = End
-sum_or_end (x ∷ xs) = Sample (fold (add binary32) silence (x ∷ xs))
+abbrev pub sum_or_end : List Float → Option Float
+sum_or_end [] = None
+sum_or_end (x ∷ xs) = Some (fold (add binary32) silence (x ∷ xs))
 
 -- Whether an add of i is accepted after some calls.
-abbrev pub verdict : ℕ → ℕ → List Call → Reply
-verdict count i past = cond (nat_lt i count) (cond (names i past) AlreadyAdded Added) NoSuchSource
+abbrev pub verdict : ℕ → ℕ → List Call → Result Unit AddRefusal
+verdict count i past = cond (nat_lt i count) (cond (names i past) (Err AlreadyAdded) (Ok tt)) (Err NoSuchSource)
 
 -- The reply to the call that follows the calls of h.
 abbrev pub reply : ℕ → List (List Float) → List Call → Call → Reply
-reply m lists h (Add i) = verdict (length lists) i h
-reply m lists h Next = sum_or_end (terms m lists h (answers h))
+reply m lists h (Add i) = AddReply (verdict (length lists) i h)
+reply m lists h Next = NextReply (sum_or_end (terms m lists h (answers h)))
 
 -- The replies to the calls cs that follow those of h.
 abbrev pub replies : ℕ → List (List Float) → List Call → List Call → List Reply

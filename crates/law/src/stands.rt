@@ -2,6 +2,7 @@
 ghost use Rattle.std.specs.Prelude.{◌≡◌, true};
 ghost use Rattle.law.specs.Asked.{RefusedChangesNothing, EarlierStays, AcceptedOnce, StartsAtFrame, EntersOnce, EndsWhenSilent};
 
+#[tactic(auto, using(crate::proofs::Refusals::refused_changes_nothing_lem))]
 pub fn refused_changes_nothing() -> bool
     ensures answer { result ≡ true }
     ensures law { RefusedChangesNothing }
@@ -9,6 +10,7 @@ pub fn refused_changes_nothing() -> bool
     true
 }
 
+#[tactic(auto, using(crate::proofs::Runs::earlier_stays_lem))]
 pub fn earlier_stays() -> bool
     ensures answer { result ≡ true }
     ensures law { EarlierStays }
@@ -23,6 +25,7 @@ pub fn accepted_once() -> bool
     true
 }
 
+#[tactic(auto, using(crate::proofs::Starts::starts_at_frame_lem))]
 pub fn starts_at_frame() -> bool
     ensures answer { result ≡ true }
     ensures law { StartsAtFrame }
@@ -30,6 +33,7 @@ pub fn starts_at_frame() -> bool
     true
 }
 
+#[tactic(auto, using(crate::proofs::Terms::enters_once_lem))]
 pub fn enters_once() -> bool
     ensures answer { result ≡ true }
     ensures law { EntersOnce }
@@ -37,6 +41,7 @@ pub fn enters_once() -> bool
     true
 }
 
+#[tactic(auto, using(crate::proofs::Terms::ends_when_silent_lem))]
 pub fn ends_when_silent() -> bool
     ensures answer { result ≡ true }
     ensures law { EndsWhenSilent }

@@ -1,11 +1,12 @@
--- Where a mixer stands after a list of calls. `lists` says what its bank still holds.
-use Rattle.std.specs.Prelude.{◌≡◌, ℕ, ◌-◌, ◌%◌, ◌<◌, false, cond, List, [], ◌∷◌, ◌++◌, length, drop, nat_le, nat_lt, slice_index, slice_index_or, Float}
+-- Where a mixer stands after a list of calls.
+use Rattle.std.specs.Prelude.{◌≡◌, ℕ, ◌-◌, ◌%◌, ◌<◌, false, cond, List, [], ◌∷◌, ◌++◌, map, length, drop, nat_le, nat_lt, slice_index_or, Float}
 use Rattle.law.specs.declared.Call.{Call}
 use Rattle.law.specs.declared.Reply.{Reply}
 use Rattle.law.specs.Told.{Told}
 use Rattle.law.specs.Mixing.{answers, names, Accepted, nobody, accepted, frame_start, reply}
 use Rattle.mixer.specs.declared.table.State.{State}
 use Rattle.mixer.specs.declared.table.State.TheVariants.{Idle, Waiting, Playing, Ended}
+use Rattle.mixer.specs.declared.table.Place.{Place}
 use Rattle.mixer.specs.declared.Mixer.{Mixer}
 use Rattle.mixer.specs.Places.{idle}
 
@@ -19,24 +20,27 @@ pub record Stands (m p q k : ℕ) (a : Accepted) (source : List Float) (state : 
   pub state_is : state ≡ state_after (frame_start m a.after) p q k (length source)
   pub left_is : left ≡ drop (q - frame_start m a.after) source
 
--- A mixer of m channels made over the lists `made`, after the calls of h, where p answers were begun and the k-th accepted source
--- had its turn in `heard k` of them. Sources that no call named are idle, and their lists untouched.
-pub record Partway {B : Type 0} (lists : B → List (List Float)) (m : ℕ) (made : List (List Float)) (h : List Call) (p : ℕ) (heard : ℕ → ℕ) (x : Mixer B) : Type 0 where
-  pub channels : x.channels.count ≡ m
-  pub count : length (lists x.bank) ≡ length made
-  pub phase : x.phase ≡ answers h % m
-  pub added : x.table.added ≡ length (accepted (length made) h)
-  pub order : (k : ℕ) → k < length (accepted (length made) h) → slice_index x.table.order k ≡ (slice_index_or (accepted (length made) h) k nobody).number
+-- A table's places and its order of adding, over `lists`, which were `made` when a mixer of m channels was made, after the calls of h, where
+-- p answers were begun and the k-th accepted source had its turn in `heard k` of them. Sources that no call named are idle, and their lists untouched.
+pub record Partway (m : ℕ) (made : List (List Float)) (h : List Call) (p : ℕ) (heard : ℕ → ℕ) (places : List Place) (order : List ℕ) (lists : List (List Float)) : Type 0 where
+  pub count : length lists ≡ length made
+  pub order_is : order ≡ map (λ a. a.number) (accepted (length made) h)
   pub sources : (k : ℕ) → k < length (accepted (length made) h) →
       Stands m p (heard k) k (slice_index_or (accepted (length made) h) k nobody) (slice_index_or made (slice_index_or (accepted (length made) h) k nobody).number [])
-      (slice_index_or x.table.places (slice_index_or (accepted (length made) h) k nobody).number idle).state
-      (slice_index_or (lists x.bank) (slice_index_or (accepted (length made) h) k nobody).number [])
+      (slice_index_or places (slice_index_or (accepted (length made) h) k nobody).number idle).state
+      (slice_index_or lists (slice_index_or (accepted (length made) h) k nobody).number [])
   pub others : (i : ℕ) → i < length made → names i h ≡ false →
-      ((slice_index_or x.table.places i idle).state ≡ Idle) × (slice_index_or (lists x.bank) i [] ≡ slice_index_or made i [])
+      ((slice_index_or places i idle).state ≡ Idle) × (slice_index_or lists i [] ≡ slice_index_or made i [])
 
--- A mixer of m channels made over the lists `made`, after the calls of h: between two calls each source had its turn in every answer.
-abbrev pub Follows : {B : Type 0} → (B → List (List Float)) → ℕ → List (List Float) → List Call → Mixer B → Type 0
-Follows lists m made h x = Partway lists m made h (answers h) (λ _. answers h) x
+-- The same between two calls, where each source had its turn in every answer.
+abbrev pub Rests : ℕ → List (List Float) → List Call → List Place → List ℕ → List (List Float) → Type 0
+Rests m made h places order lists = Partway m made h (answers h) (λ _. answers h) places order lists
+
+-- A mixer of m channels made over the lists `made`, after the calls of h. `lists` says what its bank still holds.
+pub record Follows {B : Type 0} (lists : B → List (List Float)) (m : ℕ) (made : List (List Float)) (h : List Call) (x : Mixer B) : Type 0 where
+  pub channels : x.channels.count ≡ m
+  pub phase : x.phase ≡ answers h % m
+  pub table : Rests m made h x.table.places x.table.order.items (lists x.bank)
 
 -- The call c turns the mixer x into y and is answered by r: whatever lists x was made over and whatever calls it has had, r is the
 -- law's reply to c, and y is that mixer after c.

@@ -1,4 +1,3 @@
-pub mod Answers
 pub mod Following
 pub mod Places
 pub mod Turns

@@ -1,15 +1,13 @@
 // Drawing from a mixer: at a frame's start the waiting sources begin, and each that plays has its turn, in the order of adding.
-ghost use Rattle.std.specs.Prelude.{◌≡◌, ℕ, suc, ◌%◌, ◌<◌, List, [], slice_index_or, Float};
+ghost use Rattle.std.specs.Prelude.{◌≡◌, ℕ, suc, ◌%◌, List, Float};
 ghost use Rattle.law.specs.declared.Call.{Call};
 ghost use Rattle.law.specs.declared.Call.TheVariants.{Next};
+ghost use Rattle.law.specs.declared.Reply.TheVariants.{Next as NextReply};
 ghost use Rattle.law.specs.Mixing.{answers};
-ghost use Rattle.bank.specs.Banks.{most_lists};
-ghost use Rattle.mixer.specs.Answers.{drawn};
 ghost use Rattle.mixer.specs.Following.{Follows, KeepsLaw, Partway};
-ghost use Rattle.mixer.specs.Turns.{given, plus, state_at, Took};
+ghost use Rattle.mixer.specs.Turns.{plus};
 
 use crate::Mixer;
-use crate::table::State;
 use bank::Bank;
 use common::format::ChannelCount;
 
@@ -17,7 +15,7 @@ use common::format::ChannelCount;
 pub(crate) const FRAME_START: u16 = 0;
 
 // A sum with one more term, if there is one.
-fn plus_term(sum: Option<f32>, term: Option<f32>) -> Option<f32>
+pub(crate) fn plus_term(sum: Option<f32>, term: Option<f32>) -> Option<f32>
     ensures answer { result ≡ plus sum term }
 {
     match (sum, term) {
@@ -42,47 +40,23 @@ impl<B: Bank> Mixer<B> {
     // At a frame's start the waiting sources begin.
     fn start(&mut self)
         ensures law { (m : ℕ) (made : List (List Float)) (h : List Call) → Follows B.lists m made h self.old →
-            Partway B.lists m made h (suc (answers h)) (λ _. answers h) self.new }
-        ensures added { self.new.table.added ≡ self.old.table.added }
+            Partway m made h (suc (answers h)) (λ _. answers h) self.new.table.places self.new.table.order.items (B.lists self.new.bank) }
         ensures bank { self.new.bank ≡ self.old.bank }
+        ensures phase { self.new.phase ≡ self.old.phase }
+        ensures channels { self.new.channels ≡ self.old.channels }
     {
         if self.phase == FRAME_START {
             self.table.start();
         }
     }
 
-    // The turn of source i: if it plays, it gives its next sample or is found ended.
-    fn turn(&mut self, i: usize) -> Option<f32>
-        requires { i < most_lists }
-        ensures answer { result ≡ given (state_at self.old i) (slice_index_or (B.lists self.old.bank) i []) }
-        ensures after { Took B.lists i self.old self.new }
-        ensures same { B.shape self.new.bank ≡ B.shape self.old.bank }
-    {
-        match self.table.state(i) {
-            State::Playing(_) => {
-                let term = self.bank.draw(i);
-                if term.is_none() {
-                    self.table.end(i);
-                }
-                term
-            }
-            _ => None,
-        }
-    }
-
     // The next answer: the sum of what the playing sources give, or the end where none gives a sample.
     pub fn next(&mut self) -> Option<f32>
-        ensures law { KeepsLaw B.lists Next self.old (drawn result) self.new }
+        ensures law { KeepsLaw B.lists Next self.old (NextReply result) self.new }
         ensures same { B.shape self.new.bank ≡ B.shape self.old.bank }
     {
         self.start();
-        let mut sum = None;
-        let added = self.table.added();
-        for k in 0..added {
-            let number = self.table.number(k);
-            let term = self.turn(number);
-            sum = plus_term(sum, term);
-        }
+        let sum = self.table.turns(&mut self.bank);
         let phase = phase_after(self.phase, self.channels);
         self.phase = phase;
         sum

@@ -1,32 +1,11 @@
 // Making a list of calls on a mixer.
 ghost use Rattle.std.specs.Prelude.{◌≡◌, MatchResult};
-ghost use Rattle.mixer.specs.Answers.{drawn, judged};
 ghost use Rattle.mixer.specs.Following.{KeepsLaw, PerformsLaw};
 
 use crate::Mixer;
-use crate::refusal::AddRefusal;
 use bank::Bank;
 use law::{Call, Reply};
 use std::alloc::{AllocError, Global};
-
-fn reply_to_add(answer: Result<(), AddRefusal>) -> Reply
-    ensures answer { result ≡ judged answer }
-{
-    match answer {
-        Ok(()) => Reply::Added,
-        Err(AddRefusal::NoSuchSource) => Reply::NoSuchSource,
-        Err(AddRefusal::AlreadyAdded) => Reply::AlreadyAdded,
-    }
-}
-
-fn reply_to_next(answer: Option<f32>) -> Reply
-    ensures answer { result ≡ drawn answer }
-{
-    match answer {
-        Some(sample) => Reply::Sample(sample),
-        None => Reply::End,
-    }
-}
 
 impl<B: Bank> Mixer<B> {
     // Makes one call.
@@ -34,8 +13,8 @@ impl<B: Bank> Mixer<B> {
         ensures law { KeepsLaw B.lists call self.old result self.new }
     {
         match call {
-            Call::Add(number) => reply_to_add(self.add(number)),
-            Call::Next => reply_to_next(self.next()),
+            Call::Add(number) => Reply::Add(self.add(number)),
+            Call::Next => Reply::Next(self.next()),
         }
     }
 

@@ -1,19 +1,13 @@
--- One part cut from cells, or none.
-use Rattle.std.proofs.Common.{◌≡◌, ℕ, zero, suc, ◌-◌, ◌<◌, ◌≤◌, ◌&&◌, leb, ◌⊎◌, List, [], ◌∷◌, map, length, take, drop, refl, inl, inr, arith}
+-- One part cut from cells.
+use Rattle.std.proofs.Common.{◌≡◌, ℕ, zero, suc, ◌-◌, ◌<◌, ◌≤◌, ◌&&◌, leb, List, [], ◌∷◌, map, length, take, drop, refl, arith}
 use lib.Ieee.{Float}
-use Rattle.std.proofs.lemmas.Bool.{le-leb, lt-leb, and_left, and_right, and_from, cond-true, cond-false}
+use Rattle.std.proofs.lemmas.Bool.{le-leb, lt-leb, and_right, and_from, cond-true, cond-false}
 use Rattle.common.specs.declared.format.Format.{Format}
 use Rattle.source.specs.Meanings.{open_from}
 use Rattle.buffer.specs.Refusals.{max_cells}
 use Rattle.parts.specs.Cut.{parts_of}
 
 module _ {K : Type 0} (of : K → Float) (f : Format) (n : ℕ) (cells : List K) where
-  -- none is left to hand out, or there are too few cells
-  pub no_part : (k : ℕ) → (k ≡ 0) ⊎ (length cells < n) → parts_of of f n k cells ≡ []
-  no_part zero w = refl
-  no_part (suc k) (inl e) = absurd (omega arith)
-  no_part (suc k) (inr h) = cond-false (leb n (length cells) && leb n max_cells) _ _ (and_left (leb n (length cells)) (leb n max_cells) (lt-leb n (length cells) h))
-
   -- a part has too many cells
   pub large_part : (k : ℕ) → max_cells < n → parts_of of f n k cells ≡ []
   large_part zero h = refl

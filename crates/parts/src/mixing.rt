@@ -43,17 +43,17 @@ fn add_all<B: Bank>(mixer: &mut Mixer<B>, n: usize)
 }
 
 // Draws until the end or until the cells are full, and answers how many answers it wrote.
+// A loop of its own beside the one over samples: what a mixer gives is told by its calls, and is no list of its own.
 fn drain<B: Bank>(mixer: &mut Mixer<B>, out: &mut [f32]) -> usize
     ensures law { (m : ℕ) (made : List (List Float)) → Follows B.lists m made (adds (length made)) mixer.old → Summed m made out.old out.new result }
 {
-    let n = out.len();
-    for i in 0..n {
+    for (i, cell) in out.iter_mut().enumerate() {
         match mixer.next() {
-            Some(sample) => out[i] = sample,
+            Some(sample) => *cell = sample,
             None => return i,
         }
     }
-    n
+    out.len()
 }
 
 // Mixes so many parts of the cells, each part a source in one format, in another format: writes the answers, as many as there is room for.

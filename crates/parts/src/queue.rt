@@ -30,17 +30,15 @@ impl<'a, K: Recorded> Queue for Parts<'a, K> {
     ghost waiting = { λ q. parts_of K.stands q.format q.each q.left q.cells.now };
 
     fn next_source(&mut self) -> Option<SamplesBuffer<'a, K>> {
-        if self.left == 0 || self.each > self.cells.len() {
+        if self.left == 0 {
             return None;
         }
-        let (part, others) = self.cells.split_at(self.each);
-        match SamplesBuffer::new(self.format, part) {
-            Ok(source) => {
-                self.cells = others;
-                self.left -= 1;
-                Some(source)
-            }
-            Err(_) => None,
-        }
+        let (part, others) = self.cells.split_at_checked(self.each)?;
+        let Ok(source) = SamplesBuffer::new(self.format, part) else {
+            return None;
+        };
+        self.cells = others;
+        self.left -= 1;
+        Some(source)
     }
 }

@@ -1,6 +1,6 @@
 -- The calls that keys ask for.
-use Rattle.std.specs.Prelude.{ℕ, ◌-◌, cond, List, [], ◌∷◌, ◌==◌}
-use Rattle.std.specs.List.{flat_map}
+use Rattle.std.specs.Prelude.{ℕ, ◌-◌, cond, List, Some, None, Option, ◌==◌}
+use Rattle.std.specs.List.{filter_map}
 use Rattle.common.specs.Formats.{within}
 use Rattle.law.specs.declared.Call.{Call}
 use Rattle.law.specs.declared.Call.TheVariants.{Add, Next}
@@ -16,8 +16,8 @@ abbrev pub key_9 : ℕ
 key_9 = 57
 
 -- A digit asks for an add of that number, `n` for a next, and any other key for nothing.
-abbrev pub asked : ℕ → List Call
-asked k = cond (k == key_n) (Next ∷ []) (cond (within key_0 key_9 k) (Add (k - key_0) ∷ []) [])
+abbrev pub asked : ℕ → Option Call
+asked k = cond (k == key_n) (Some Next) (cond (within key_0 key_9 k) (Some (Add (k - key_0))) None)
 
 abbrev pub all_asked : List ℕ → List Call
-all_asked = flat_map asked
+all_asked = filter_map asked

@@ -12,17 +12,13 @@ const CHANNELS: u16 = 2;
 
 const RATE: u32 = 48_000;
 
-fn run(rt: &HostRuntime) -> Result<(), Failure> {
+fn main(rt: HostRuntime) -> Result<(), Failure> {
     let heap = rt.alloc();
     let format = Format::new(CHANNELS, RATE)?;
-    let keys = keys::read(rt)?;
+    let keys = keys::read(&rt)?;
     let calls = keys::calls(heap, keys.as_slice())?;
     let recording = [0.5f32, 0.25];
     let replies = play::play(heap, format, &recording, calls.as_slice())?;
-    lines::print_all(rt, calls.as_slice(), replies.as_slice())?;
+    lines::print_all(&rt, calls.as_slice(), replies.as_slice())?;
     Ok(())
-}
-
-fn main(rt: HostRuntime) -> Result<(), Failure> {
-    run(&rt)
 }

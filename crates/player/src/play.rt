@@ -18,7 +18,8 @@ use std::io;
 // Why a player stops before its last key.
 #[derive(Debug, Drop)]
 pub enum Failure {
-    Refused(u8),
+    Format(FormatRefusal),
+    Buffer(BufferRefusal),
     NoMemory,
     Input,
 }
@@ -37,13 +38,13 @@ impl From<io::Error> for Failure {
 
 impl From<FormatRefusal> for Failure {
     fn from(refusal: FormatRefusal) -> Failure {
-        Failure::Refused(refusal.number())
+        Failure::Format(refusal)
     }
 }
 
 impl From<BufferRefusal> for Failure {
     fn from(refusal: BufferRefusal) -> Failure {
-        Failure::Refused(refusal.number())
+        Failure::Buffer(refusal)
     }
 }
 
@@ -58,7 +59,5 @@ pub(crate) fn play<K: Recorded>(
 {
     let recording = SamplesBuffer::new(format, cells)?;
     let mut mixer = Mixer::new(Joined::new(BareBank::new(format), recording));
-    let replies = mixer.perform(heap, calls);
-    let (_bank, _recording) = mixer.into_inner().into_inner();
-    Ok(replies?)
+    Ok(mixer.perform(heap, calls)?)
 }

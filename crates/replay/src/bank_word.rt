@@ -1,67 +1,54 @@
 // bank CHANNELS RATE SOURCE+SOURCE..: the lists of a bank that the sources are joined to.
 ghost use Rattle.std.specs.Prelude.{◌≡◌, length};
 
+use crate::formats::FormatNumbers;
+use crate::lists::{Form, Listing};
 use crate::rounds::drawn_lists;
-use crate::sources::SourcesRead;
-use crate::{formats, sources};
+use crate::sources;
+use crate::words::Joined;
 use bank::Bank;
 use bank::bare::BareBank;
 use cases::fault::Fault;
-use common::format::Format;
 use joining::Visitor;
 use joining::seventeen::join_all;
 use joining::source_list::SourceList;
 use source::Source;
-use std::alloc::Global;
+use std::alloc::{AllocError, Global};
 
-// Counts a bank's lists and writes them down.
+// Counts a bank's lists and writes them down, each in the form of its number.
 #[derive(Drop)]
 struct Lists {
-    heap: Global,
-    ramps: Vec<bool>,
+    forms: Vec<Form>,
     count: usize,
-    text: Result<String, Fault>,
+    listings: Result<Vec<Listing>, AllocError>,
 }
 
 impl Visitor for Lists {
     ghost visited = { λ _ ls _ after. after.count ≡ length ls };
 
-    fn visit<B: Bank>(&mut self, bank: B) -> B {
-        let mut bank = bank;
+    fn visit<B: Bank>(&mut self, mut bank: B) -> B {
         self.count = bank.count();
-        self.text = drawn_lists(self.heap, &mut bank, self.ramps.as_slice());
+        let heap = *self.forms.allocator();
+        self.listings = drawn_lists(heap, &mut bank, self.forms.as_slice());
         bank
     }
 }
 
-// The lists of a bank of this format that the sources are joined to.
-fn joined_lists(heap: Global, format: Format, read: SourcesRead) -> Result<String, Fault> {
-    let SourcesRead { sources, ramps } = read;
-    let mut queue = SourceList::new(sources);
-    let mut lists = Lists {
-        heap,
-        ramps,
-        count: 0,
-        text: Ok(String::new(heap)),
-    };
-    let _bank = join_all(BareBank::new(format), &mut queue, &mut lists);
-    let Lists {
-        heap: _,
-        ramps: _,
-        count,
-        text,
-    } = lists;
-    let text = text?;
-    Ok(format!(in heap; "{count} {text}")?)
-}
-
 pub(crate) fn bank_answer(heap: Global, fields: &[&str]) -> Result<String, Fault> {
-    let [_, channels, rate, words] = fields else {
+    let [channels, rate, words] = fields else {
         return Err(Fault::WrongFields);
     };
-    let channels = formats::channels(channels)?;
-    let rate = formats::rate(rate)?;
+    let numbers = FormatNumbers::read(channels, rate)?;
     let read = sources::sources(heap, words)?;
-    let format = Format::new(channels, rate)?;
-    joined_lists(heap, format, read)
+    let format = numbers.judged()?;
+    let mut lists = Lists {
+        forms: read.iter().map(|one| one.form).collect(heap)?,
+        count: 0,
+        listings: Ok(Vec::new(heap)),
+    };
+    let mut queue = SourceList::new(sources::plain(heap, read)?);
+    let _bank = join_all(BareBank::new(format), &mut queue, &mut lists);
+    let count = lists.count;
+    let listings = lists.listings?;
+    Ok(format!(in heap; "{count} {}", Joined::new(&listings, '+'))?)
 }

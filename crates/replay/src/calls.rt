@@ -1,9 +1,10 @@
 // Calls on a mixer, read from a word, and their replies written as one: n=ANSWER for a next and aI=ANSWER for an add of number I.
+use crate::words;
+use crate::words::Joined;
 use cases::fault::Fault;
 use cases::reading;
 use law::{Call, Reply};
 use std::alloc::{AllocError, Global};
-use std::num::f32_to_bits_with_nan;
 
 // `n` for a next, and `a` with a number for an add.
 fn call(word: &str) -> Result<Call, Fault> {
@@ -18,28 +19,13 @@ fn call(word: &str) -> Result<Call, Fault> {
 
 // `-` for none, or calls joined by commas.
 pub(crate) fn calls(heap: Global, word: &str) -> Result<Vec<Call>, Fault> {
-    let mut all = Vec::new(heap);
-    if word != "-" {
-        for part in word.split(',') {
-            all.push(call(part)?)?;
-        }
-    }
-    Ok(all)
+    words::parts(heap, word, ',', |part| call(part))
 }
 
 fn shown(heap: Global, call: Call, reply: &Reply) -> Result<String, AllocError> {
     match call {
-        Call::Add(number) => {
-            let refusal = reply.number().unwrap_or(0);
-            format!(in heap; "a{number}={refusal}")
-        }
-        Call::Next => match reply {
-            Reply::Sample(sample) => {
-                let bits = f32_to_bits_with_nan(*sample);
-                format!(in heap; "n={bits:08x}")
-            }
-            _ => String::from_str(heap, "n=end"),
-        },
+        Call::Add(number) => format!(in heap; "a{number}={reply}"),
+        Call::Next => format!(in heap; "n={reply}"),
     }
 }
 
@@ -49,16 +35,9 @@ pub(crate) fn answers(
     calls: &[Call],
     replies: &[Reply],
 ) -> Result<String, AllocError> {
-    if calls.is_empty() {
-        return String::from_str(heap, "-");
-    }
-    let mut text = String::new(heap);
-    for (call, reply) in calls.iter().zip(replies.iter()) {
-        if !text.is_empty() {
-            text.push(',')?;
-        }
-        let one = shown(heap, *call, reply)?;
-        text.push_str(one.as_str())?;
-    }
-    Ok(text)
+    let pairs = calls.iter().zip(replies);
+    let all: Vec<String> = pairs
+        .map(|(call, reply)| shown(heap, *call, reply))
+        .try_collect(heap)?;
+    format!(in heap; "{}", Joined::new(&all, ','))
 }

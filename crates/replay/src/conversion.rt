@@ -1,93 +1,96 @@
 // Converting a list of samples, and how much of it each output sample has used.
-use crate::drawing::{count, draw, write_all};
-use crate::lists;
-use crate::lists::Listing;
+use crate::drawing::{count, draw};
+use crate::lists::{Form, Listing};
 use buffer::SamplesBuffer;
 use buffer::refusal::BufferRefusal;
 use cases::fault::Fault;
 use channels::ChannelCountConverter;
-use common::format::{ChannelCount, Format, SampleRate};
-use recorded::Recorded;
+use common::format::Format;
 use sample_rate::SampleRateConverter;
 use source::Samples;
 use source::flattened::Flattened;
 use std::alloc::Global;
 
-// What a list is converted to.
-#[derive(Clone, Copy)]
-pub(crate) enum Conversion {
-    Channels(ChannelCount),
-    Rate(SampleRate),
+// The samples of a list, as a converter's input.
+pub(crate) type Input<'a> = Flattened<SamplesBuffer<'a, f32>>;
+
+// A converter, whose input can be taken back.
+pub(crate) trait Converter: Samples + Drop {
+    type Input: Samples + Drop;
+
+    fn into_input(self) -> Self::Input;
 }
 
-// Writes down what the cells convert to.
-pub(crate) fn convert<K: Recorded>(
-    heap: Global,
-    conversion: Conversion,
-    format: Format,
-    cells: &[K],
-    listing: &mut Listing,
-) -> Result<(), Fault> {
-    let input = Flattened::new(SamplesBuffer::new(format, cells)?);
-    let written = match conversion {
-        Conversion::Channels(to) => {
-            let mut converter = ChannelCountConverter::new(input, format.channels, to);
-            let written = write_all(heap, &mut converter, listing);
-            let _buffer = converter.into_inner().into_inner();
-            written
-        }
-        Conversion::Rate(to) => {
-            let mut converter = SampleRateConverter::new(input, format.rate, to, format.channels);
-            let written = write_all(heap, &mut converter, listing);
-            let _buffer = converter.into_inner().into_inner();
-            written
-        }
-    };
-    Ok(written?)
-}
+impl<I: Samples + Drop> Converter for ChannelCountConverter<I> {
+    type Input = I;
 
-// How many input samples are gone once n output samples were drawn; none where there are fewer.
-pub(crate) fn used<K: Recorded>(
-    conversion: Conversion,
-    format: Format,
-    cells: &[K],
-    n: usize,
-) -> Result<Option<usize>, BufferRefusal> {
-    let input = Flattened::new(SamplesBuffer::new(format, cells)?);
-    let (drawn, mut input) = match conversion {
-        Conversion::Channels(to) => {
-            let mut converter = ChannelCountConverter::new(input, format.channels, to);
-            let drawn = draw(&mut converter, n);
-            (drawn, converter.into_inner())
-        }
-        Conversion::Rate(to) => {
-            let mut converter = SampleRateConverter::new(input, format.rate, to, format.channels);
-            let drawn = draw(&mut converter, n);
-            (drawn, converter.into_inner())
-        }
-    };
-    let left = count(&mut input);
-    let _buffer = input.into_inner();
-    if drawn {
-        Ok(Some(cells.len().saturating_sub(left)))
-    } else {
-        Ok(None)
+    fn into_input(self) -> I {
+        self.into_inner()
     }
 }
 
-// How many input samples are gone after each output sample, joined by commas.
-pub(crate) fn all_used<K: Recorded>(
-    heap: Global,
-    conversion: Conversion,
-    format: Format,
-    cells: &[K],
-) -> Result<String, Fault> {
-    let mut all = Vec::new(heap);
-    for n in 1..usize::MAX {
-        match used(conversion, format, cells, n)? {
-            Some(gone) => all.push(gone)?,
-            None => break,
-        }
+impl<I: Samples + Drop> Converter for SampleRateConverter<I> {
+    type Input = I;
+
+    fn into_input(self) -> I {
+        self.into_inner()
     }
-    Ok(lists::numbers(heap, all.as_slice())?)
+}
+
+// What a list converts to, how much of it the converter uses when it is made, and how much each output sample has used.
+#[derive(Drop)]
+pub(crate) struct Converted {
+    pub(crate) listing: Listing,
+    pub(crate) made: usize,
+    pub(crate) used: Vec<usize>,
+}
+
+// Cells in a format, and how a converter of them is made.
+#[derive(Drop)]
+pub(crate) struct Conversion<'a, F> {
+    pub(crate) format: Format,
+    pub(crate) cells: &'a [f32],
+    pub(crate) make: F,
+}
+
+impl<'a, C: Converter, F: Fn(Input<'a>) -> C> Conversion<'a, F> {
+    fn converter(&self) -> Result<C, BufferRefusal>
+        requires { F.IsAlwaysCallable self.now.make }
+    {
+        let buffer = SamplesBuffer::new(self.format, self.cells)?;
+        Ok((self.make)(Flattened::new(buffer)))
+    }
+
+    // How many input samples are gone once n output samples were drawn; none where there are fewer.
+    fn used(&self, n: usize) -> Result<Option<usize>, BufferRefusal>
+        requires { F.IsAlwaysCallable self.now.make }
+    {
+        let mut converter = self.converter()?;
+        let drawn = draw(&mut converter, n);
+        let left = count(&mut converter.into_input());
+        Ok(drawn.then_some(self.cells.len().saturating_sub(left)))
+    }
+
+    // Of a list that is written by its hash, nothing is said of each output sample.
+    pub(crate) fn converted(&self, heap: Global, form: Form) -> Result<Converted, Fault>
+        requires { F.IsAlwaysCallable self.now.make }
+    {
+        let mut listing = Listing::new(heap, form);
+        listing.write_all(&mut self.converter()?)?;
+        let made = self.used(0)?.unwrap_or(0);
+        let mut used = Vec::new(heap);
+        if matches!(form, Form::Full) {
+            for n in 1..usize::MAX {
+                match self.used(n)? {
+                    Some(gone) => used.push(gone)?,
+                    None => break,
+                }
+            }
+        }
+        Ok(Converted {
+            listing,
+            made,
+            used,
+        })
+    }
 }

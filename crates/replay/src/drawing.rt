@@ -1,21 +1,7 @@
 // Drawing from a list of samples.
 ghost use Rattle.std.specs.Prelude.{◌≡◌, ◌-◌, ◌^◌, ◌≤◌, min, [], length, drop, nat_le};
 
-use crate::lists::Listing;
 use source::Samples;
-use std::alloc::{AllocError, Global};
-
-// Writes all samples down.
-pub(crate) fn write_all<S: Samples>(
-    heap: Global,
-    input: &mut S,
-    listing: &mut Listing,
-) -> Result<(), AllocError> {
-    while let Some(sample) = input.next() {
-        listing.push(heap, sample)?;
-    }
-    Ok(())
-}
 
 // Draws n samples, and answers whether there were as many.
 pub(crate) fn draw<S: Samples>(input: &mut S, n: usize) -> bool
@@ -36,7 +22,7 @@ pub(crate) fn count<S: Samples>(input: &mut S) -> usize
     ensures after { S.samples input.new ≡ [] }
 {
     let mut n: usize = 0;
-    while let Some(_) = input.next() {
+    while input.next().is_some() {
         n = n.saturating_add(1);
     }
     n

@@ -14,6 +14,7 @@ mod rate_word;
 mod rounds;
 mod sources;
 mod uniform_word;
+mod words;
 
 use crate::bank_word::bank_answer;
 use crate::buffer_word::buffer_answer;
@@ -26,45 +27,35 @@ use std::alloc::Global;
 use std::io;
 use std::io::{BufRead, BufReader};
 
-// The fields of a line, which single blanks separate.
-fn fields(heap: Global, line: &str) -> Result<Vec<&str>, Fault> {
-    let mut all = Vec::new(heap);
-    for field in line.split(' ') {
-        all.push(field)?;
-    }
-    Ok(all)
-}
-
+// The answer to a line, whose fields single blanks separate.
 fn answer(heap: Global, bytes: &[u8]) -> Result<String, Fault> {
-    let Ok(line) = std::str::from_utf8(bytes) else {
-        return Err(Fault::NotText);
-    };
-    let all = fields(heap, line)?;
-    let Some(word) = all.first() else {
+    let line = std::str::from_utf8(bytes).map_err(|_| Fault::NotText)?;
+    let all: Vec<&str> = line.split(' ').collect(heap)?;
+    let [word, fields @ ..] = all.as_slice() else {
         return Err(Fault::NoSuchWord);
     };
     match *word {
-        "bank" => bank_answer(heap, all.as_slice()),
-        "buffer" => buffer_answer(heap, all.as_slice()),
-        "channels" => channels_answer(heap, all.as_slice()),
-        "mixer" => mixer_answer(heap, all.as_slice()),
-        "rate" => rate_answer(heap, all.as_slice()),
-        "uniform" => uniform_answer(heap, all.as_slice()),
+        "bank" => bank_answer(heap, fields),
+        "buffer" => buffer_answer(heap, fields),
+        "channels" => channels_answer(heap, fields),
+        "mixer" => mixer_answer(heap, fields),
+        "rate" => rate_answer(heap, fields),
+        "uniform" => uniform_answer(heap, fields),
         _ => Err(Fault::NoSuchWord),
     }
 }
 
+// Empty lines, and those that begin with a hash sign, have no answer.
 fn main(rt: HostRuntime) -> io::Result<()> {
     let heap = rt.alloc();
     for line in BufReader::new(heap, rt.stdin())?.split(heap, b'\n') {
         let line = line?;
-        match line.first() {
-            None => {}
-            Some(b'#') => {}
-            Some(_) => match answer(heap, line.as_slice()) {
-                Ok(text) => println!(rt; "{text}")?,
-                Err(fault) => println!(rt; "{fault}")?,
-            },
+        if matches!(line.first(), None | Some(b'#')) {
+            continue;
+        }
+        match answer(heap, line.as_slice()) {
+            Ok(text) => println!(rt; "{text}")?,
+            Err(fault) => println!(rt; "{fault}")?,
         }
     }
     Ok(())

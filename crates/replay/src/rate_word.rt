@@ -1,31 +1,32 @@
 // rate CHANNELS FROM TO LIST: the list converted from one rate to another, how much of the input the converter uses when it is
 // made, and how much each output sample has used.
-use crate::conversion::{Conversion, all_used, convert, used};
-use crate::lists::Listing;
+use crate::conversion::{Conversion, Converted};
+use crate::formats::FormatNumbers;
+use crate::words::Joined;
 use crate::{formats, lists};
 use cases::fault::Fault;
-use common::format::{Format, SampleRate};
+use common::format::SampleRate;
+use sample_rate::SampleRateConverter;
 use std::alloc::Global;
 
 pub(crate) fn rate_answer(heap: Global, fields: &[&str]) -> Result<String, Fault> {
-    let [_, channels, from, to, list] = fields else {
+    let [channels, from, to, list] = fields else {
         return Err(Fault::WrongFields);
     };
-    let channels = formats::channels(channels)?;
-    let from = formats::rate(from)?;
+    let numbers = FormatNumbers::read(channels, from)?;
     let to = formats::rate(to)?;
     let list = lists::list(heap, list)?;
-    let format = Format::new(channels, from)?;
-    let conversion = Conversion::Rate(SampleRate::new(to)?);
-    let cells = list.samples.as_slice();
-    let mut listing = Listing::new(heap, list.ramp);
-    convert(heap, conversion, format, cells, &mut listing)?;
-    let converted = listing.finish(heap)?;
-    let made = used(conversion, format, cells, 0)?.unwrap_or(0);
-    let used = if list.ramp {
-        String::from_str(heap, "-")?
-    } else {
-        all_used(heap, conversion, format, cells)?
+    let format = numbers.judged()?;
+    let to = SampleRate::new(to)?;
+    let conversion = Conversion {
+        format,
+        cells: list.samples.as_slice(),
+        make: |input| SampleRateConverter::new(input, format.rate, to, format.channels),
     };
-    Ok(format!(in heap; "{converted} {made} {used}")?)
+    let Converted {
+        listing,
+        made,
+        used,
+    } = conversion.converted(heap, list.form)?;
+    Ok(format!(in heap; "{listing} {made} {}", Joined::new(&used, ','))?)
 }

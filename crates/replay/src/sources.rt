@@ -1,134 +1,130 @@
 // Sources, read from a word: TOTAL;REST;SPAN;SPAN.. with REST k/C/R or o/C/R and SPAN k/C/R/LIST or o/C/R/LIST.
-use crate::lists::SampleList;
-use crate::{formats, lists};
+use crate::formats::FormatNumbers;
+use crate::lists::{Form, SampleList};
+use crate::{lists, words};
 use cases::fault::Fault;
 use cases::reading;
 use common::duration::Duration;
 use common::format::Format;
-use span_list::SpanList;
 use span_list::known_span::KnownSpan;
-use std::alloc::Global;
+use span_list::{OpenSpan, Rest, SpanList};
+use std::alloc::{AllocError, Global};
 
-// A source, and whether a ramp is in it.
+// A source, and how an answer writes what is made of it.
 #[derive(Drop)]
 pub(crate) struct SourceRead {
     pub(crate) source: SpanList,
-    pub(crate) ramp: bool,
+    pub(crate) form: Form,
 }
 
-// Sources in order, and whether a ramp is in each.
-#[derive(Drop)]
-pub(crate) struct SourcesRead {
-    pub(crate) sources: Vec<SpanList>,
-    pub(crate) ramps: Vec<bool>,
+// Whether the length of a span is known or open.
+#[derive(Clone, Copy)]
+enum Kind {
+    Known,
+    Open,
 }
 
-// The parts of a word between marks.
-fn parts(heap: Global, word: &str, mark: char) -> Result<Vec<&str>, Fault> {
-    let mut all = Vec::new(heap);
-    for part in word.split(mark) {
-        all.push(part)?;
+impl Kind {
+    fn read(word: &str) -> Result<Kind, Fault> {
+        match word {
+            "k" => Ok(Kind::Known),
+            "o" => Ok(Kind::Open),
+            _ => Err(Fault::NotASource),
+        }
     }
-    Ok(all)
 }
 
-fn total(word: &str) -> Result<Option<Duration>, Fault> {
+#[derive(Drop)]
+struct Span {
+    kind: Kind,
+    format: Format,
+    list: SampleList,
+}
+
+impl Span {
+    fn read(heap: Global, word: &str) -> Result<Span, Fault> {
+        let fields: Vec<&str> = word.split('/').collect(heap)?;
+        let [kind, channels, rate, list] = fields.as_slice() else {
+            return Err(Fault::NotASource);
+        };
+        let span = Span {
+            kind: Kind::read(kind)?,
+            format: format(channels, rate)?,
+            list: lists::list(heap, list)?,
+        };
+        if span.list.samples.is_empty() {
+            return Err(Fault::EmptySpan);
+        }
+        Ok(span)
+    }
+}
+
+fn format(channels: &str, rate: &str) -> Result<Format, Fault> {
+    let numbers = FormatNumbers::read(channels, rate)?;
+    numbers.judged().map_err(|_| Fault::NoSuchFormat)
+}
+
+// What a source rests at.
+fn resting(heap: Global, word: &str) -> Result<Rest, Fault> {
+    let fields: Vec<&str> = word.split('/').collect(heap)?;
+    let [kind, channels, rate] = fields.as_slice() else {
+        return Err(Fault::NotASource);
+    };
+    let known = matches!(Kind::read(kind)?, Kind::Known);
+    let format = format(channels, rate)?;
+    Ok(Rest { format, known })
+}
+
+// `none`, or nanoseconds.
+fn duration(word: &str) -> Result<Option<Duration>, Fault> {
     if word == "none" {
         return Ok(None);
     }
     Ok(Some(Duration::from_nanos(reading::number(word)?)))
 }
 
-// `k` for known and `o` for open.
-fn known(word: &str) -> Result<bool, Fault> {
-    match word {
-        "k" => Ok(true),
-        "o" => Ok(false),
-        _ => Err(Fault::NotASource),
-    }
-}
-
-fn format(channels: &str, rate: &str) -> Result<Format, Fault> {
-    match Format::new(formats::channels(channels)?, formats::rate(rate)?) {
-        Ok(format) => Ok(format),
-        Err(_) => Err(Fault::NoSuchFormat),
-    }
-}
-
-fn rest(heap: Global, word: &str) -> Result<(bool, Format), Fault> {
-    let all = parts(heap, word, '/')?;
-    let [kind, channels, rate] = all.as_slice() else {
-        return Err(Fault::NotASource);
-    };
-    Ok((known(kind)?, format(channels, rate)?))
-}
-
-fn span(heap: Global, word: &str) -> Result<(bool, Format, SampleList), Fault> {
-    let all = parts(heap, word, '/')?;
-    let [kind, channels, rate, list] = all.as_slice() else {
-        return Err(Fault::NotASource);
-    };
-    let known = known(kind)?;
-    let format = format(channels, rate)?;
-    let list = lists::list(heap, list)?;
-    if list.samples.is_empty() {
-        return Err(Fault::EmptySpan);
-    }
-    Ok((known, format, list))
-}
-
 pub(crate) fn source(heap: Global, word: &str) -> Result<SourceRead, Fault> {
-    let all = parts(heap, word, ';')?;
-    if all.len() < 2 {
+    let parts: Vec<&str> = word.split(';').collect(heap)?;
+    let [total, rest, spans @ ..] = parts.as_slice() else {
         return Err(Fault::NotASource);
-    }
-    let duration = total(all[0])?;
-    let (rests_known, rests_at) = rest(heap, all[1])?;
-    let mut known_spans = Vec::new(heap);
-    let mut open = Vec::new(heap);
-    let mut open_format = rests_at;
-    let mut ramp = false;
-    for i in 2..all.len() {
-        if !open.is_empty() {
+    };
+    let duration = duration(total)?;
+    let rest = resting(heap, rest)?;
+    let mut known = Vec::new(heap);
+    let mut open = None;
+    let mut form = Form::Full;
+    for span in spans {
+        if open.is_some() {
             return Err(Fault::OpenSpanNotLast);
         }
-        let (known, format, list) = span(heap, all[i])?;
-        let SampleList {
-            samples,
-            ramp: is_ramp,
-        } = list;
-        ramp = ramp || is_ramp;
-        if known {
-            match KnownSpan::new(format, samples) {
-                Ok(span) => known_spans.push(span)?,
-                Err(_) => return Err(Fault::EmptySpan),
+        let Span { kind, format, list } = Span::read(heap, span)?;
+        form = form.or(list.form);
+        match kind {
+            Kind::Known => {
+                known.push(KnownSpan::new(format, list.samples).map_err(|_| Fault::EmptySpan)?)?;
             }
-        } else {
-            open = samples;
-            open_format = format;
+            Kind::Open => {
+                open = Some(OpenSpan {
+                    format,
+                    samples: list.samples,
+                });
+            }
         }
     }
-    let source = SpanList::new(
-        known_spans,
-        open_format,
-        open,
-        rests_at,
-        rests_known,
-        duration,
-    );
-    Ok(SourceRead { source, ramp })
+    let open = open.unwrap_or(OpenSpan {
+        format: rest.format,
+        samples: Vec::new(heap),
+    });
+    let source = SpanList::new(known, open, rest, duration);
+    Ok(SourceRead { source, form })
 }
 
 // `-` for none, or sources joined by plus signs.
-pub(crate) fn sources(heap: Global, word: &str) -> Result<SourcesRead, Fault> {
-    let mut sources = Vec::new(heap);
-    let mut ramps = Vec::new(heap);
-    if word != "-" {
-        for part in word.split('+') {
-            let SourceRead { source, ramp } = source(heap, part)?;
-            sources.push(source)?;
-            ramps.push(ramp)?;
-        }
-    }
-    Ok(SourcesRead { sources, ramps })
+pub(crate) fn sources(heap: Global, word: &str) -> Result<Vec<SourceRead>, Fault> {
+    words::parts(heap, word, '+', |part| source(heap, part))
+}
+
+// The sources alone, in order.
+pub(crate) fn plain(heap: Global, read: Vec<SourceRead>) -> Result<Vec<SpanList>, AllocError> {
+    read.into_iter().map(|one| one.source).collect(heap)
 }

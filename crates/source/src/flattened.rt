@@ -4,6 +4,7 @@ ghost use Rattle.source.specs.Meanings.{samples_of, at_end};
 
 use crate::{Samples, Source};
 
+#[derive(Drop)]
 pub struct Flattened<S> {
     input: S,
 }

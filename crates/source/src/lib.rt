@@ -3,7 +3,7 @@
 
 pub mod flattened;
 
-ghost use Rattle.std.specs.Prelude.{◌≡◌, List, None, Float};
+ghost use Rattle.std.specs.Prelude.{◌≡◌, List, drop, None, Float};
 ghost use Rattle.source.specs.Samples.{first, rest};
 ghost use Rattle.source.specs.Meanings.{Meaning, format_now, span_len_now, samples_of, after_next};
 
@@ -24,6 +24,18 @@ pub trait Samples {
         ensures after { samples self.new ≡ rest (samples self.old) }
         ensures same { beyond self.new ≡ beyond self.old }
         ensures spent { result ≡ None → below self.new ≡ beyond self.new };
+
+    // Draws n samples, or all there are, and lets them go.
+    fn discard(&mut self, n: usize)
+        ensures after { samples self.new ≡ drop n (samples self.old) }
+        ensures same { beyond self.new ≡ beyond self.old }
+    {
+        for _ in 0..n {
+            if self.next().is_none() {
+                return;
+            }
+        }
+    }
 }
 
 // Spans of samples, each in its format, and what is answered once they are gone.

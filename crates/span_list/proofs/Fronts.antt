@@ -19,10 +19,6 @@ known_same f xs ys h k ss e =
     let P : List Float → Type 0 = λ zs. (p : length zs ≤ longest_known) → known_from f xs h ss ≡ known_from f zs p ss in
     subst P e (λ p. ap (λ q. known_from f xs q ss) (le_prop h p)) k
 
--- the known span at the front of those left
-pub here : (ks : List KnownSpan) (at : ℕ) (k : KnownSpan) → at < length ks → k ≡ get_or ks at k → drop at ks ≡ k ∷ drop (at + 1) ks
-here ks at k h e = drop_more ks at k h ∙ ap (λ x. x ∷ drop (at + 1) ks) (sym e)
-
 module _ (pos : ℕ) (k : KnownSpan) (ks : List KnownSpan) (f : Format) (ys : List Float) (h : pos < vec_len k.samples) where
   room : pos < length (vec_items k.samples)
   room = omega (arith, k.samples.ok.0)
@@ -70,13 +66,11 @@ open_front pos f ys x h e = ap (open_from f) (drop_more ys pos x h ∙ ap (λ y.
 pub open_none : (pos : ℕ) (f : Format) (ys : List Float) → length ys ≤ pos → spans_from pos [] f ys ≡ silent
 open_none pos f ys h = ap (open_from f) (drop_all pos ys h)
 
--- where a list of spans stands
-module _ (s : SpanList) where
-  pub in_known : (k : KnownSpan) → s.at < vec_len s.known → k ≡ get_or (vec_items s.known) s.at k →
-      (drop s.at (vec_items s.known) ≡ k ∷ drop (s.at + 1) (vec_items s.known)) × (s.pos < vec_len k.samples)
-  in_known k h e =
-      let l : s.at < length (vec_items s.known) = omega (arith, s.known.ok.0) in
-      (here (vec_items s.known) s.at k l e, subst (λ (x : KnownSpan). s.pos < vec_len x.samples) (sym e) (s.inside k l))
-
-  pub in_open : vec_len s.known ≤ s.at → drop s.at (vec_items s.known) ≡ []
-  in_open h = drop_all s.at (vec_items s.known) (omega (arith, s.known.ok.0))
+-- the first of the known spans that are left
+pub in_known : (s : SpanList) (k : KnownSpan) → 0 < length s.known.items → k ≡ get_or s.known.items 0 k →
+    (s.known.items ≡ k ∷ drop 1 s.known.items) × (s.pos < vec_len k.samples)
+in_known s k h e = (stands s.known.items h e, subst (λ (x : KnownSpan). s.pos < vec_len x.samples) (sym e) (s.inside k h))
+  where
+    stands : (ks : List KnownSpan) → 0 < length ks → k ≡ get_or ks 0 k → ks ≡ k ∷ drop 1 ks
+    stands [] l q = absurd (omega arith)
+    stands (j ∷ ks) l q = ap (λ x. x ∷ ks) (sym q)

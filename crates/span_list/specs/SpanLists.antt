@@ -1,9 +1,11 @@
 -- What a list of spans means.
-use Rattle.std.specs.Prelude.{ℕ, Bool, List, [], ◌∷◌, drop, vec_items, Option, Float}
+use Rattle.std.specs.Prelude.{ℕ, List, [], ◌∷◌, drop, vec_items, Option, Float}
 use Rattle.common.specs.declared.duration.Duration.{Duration}
 use Rattle.common.specs.declared.format.Format.{Format}
 use Rattle.source.specs.Meanings.{Spans, Meaning, open_from, known_from}
 use Rattle.span_list.specs.Fits.{left_fits}
+use Rattle.span_list.specs.declared.OpenSpan.{OpenSpan}
+use Rattle.span_list.specs.declared.Rest.{Rest}
 use Rattle.span_list.specs.declared.SpanList.{SpanList}
 use Rattle.span_list.specs.declared.known_span.KnownSpan.{KnownSpan}
 
@@ -12,15 +14,15 @@ abbrev pub spans_from : ℕ → List KnownSpan → Format → List Float → Spa
 spans_from pos [] f ys = open_from f (drop pos ys)
 spans_from pos (k ∷ ks) f ys = known_from k.format (drop pos (vec_items k.samples)) (left_fits pos k) (spans_from 0 ks f ys)
 
--- A source of known spans, an open one, a resting answer and a duration.
-abbrev pub list_of : List KnownSpan → Format → List Float → Format → Bool → Option Duration → Meaning
-list_of ks f ys rests_at rests_known d = record { spans = spans_from 0 ks f ys; rests_at = rests_at; rests_known = rests_known; duration = d }
+-- A source of known spans, an open one, what it rests at and a duration.
+abbrev pub list_of : List KnownSpan → OpenSpan → Rest → Option Duration → Meaning
+list_of ks o r d = record { spans = spans_from 0 ks o.format (vec_items o.samples); rests_at = r.format; rests_known = r.known; duration = d }
 
 -- What is left of a list of spans.
 abbrev pub list_meaning : SpanList → Meaning
 list_meaning s = record {
-  spans = spans_from s.pos (drop s.at (vec_items s.known)) s.open_format (vec_items s.open);
-  rests_at = s.rests_at;
-  rests_known = s.rests_known;
+  spans = spans_from s.pos s.known.items s.open.format (vec_items s.open.samples);
+  rests_at = s.rest.format;
+  rests_known = s.rest.known;
   duration = s.duration;
 }

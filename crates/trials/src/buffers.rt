@@ -10,23 +10,14 @@ use std::test::Fail;
 
 // The bits of the samples that a buffer gives before its end, and at most ten, then what it rests at: channels, rate, and 1 where it is open.
 fn played<K: Recorded>(heap: Global, format: Format, cells: &[K]) -> Result<Vec<u32>, Fail> {
-    let mut buffer = match SamplesBuffer::new(format, cells) {
-        Ok(buffer) => buffer,
-        Err(_) => return Err(Fail::new("refused")),
-    };
-    let mut all = Vec::new(heap);
-    for _ in 0..10 {
-        if let Some(sample) = buffer.next() {
-            all.push(f32_to_bits_with_nan(sample))?;
-        }
-    }
+    let mut buffer = SamplesBuffer::new(format, cells).map_err(|_| Fail::new("refused"))?;
+    let samples = (0..10).filter_map(|_| buffer.next());
+    let mut all: Vec<u32> = samples
+        .map(|sample| f32_to_bits_with_nan(sample))
+        .collect(heap)?;
     all.push(u32::from(buffer.channels().get()))?;
     all.push(buffer.sample_rate().get())?;
-    all.push(if buffer.current_span_len().is_none() {
-        1
-    } else {
-        0
-    })?;
+    all.push(u32::from(buffer.current_span_len().is_none()))?;
     Ok(all)
 }
 
@@ -45,7 +36,7 @@ fn sixteen_bits_stand_for_their_share_of_32768(rt: HostRuntime) -> Result<(), Fa
         44_100,
         1,
     ];
-    assert!(rt; bits.as_slice() == &wanted[..]);
+    assert_eq!(rt; bits.as_slice(), &wanted[..]);
     Ok(())
 }
 
@@ -54,7 +45,7 @@ fn floats_stand_for_themselves(rt: HostRuntime) -> Result<(), Fail> {
     let cells: [f32; 3] = [-0.0, 0.1, 3.0e38];
     let bits = played(rt.alloc(), formats::format(8, 65_536)?, &cells[..])?;
     let wanted = [0x8000_0000, 0x3dcc_cccd, 0x7f61_b1e6, 8, 65_536, 1];
-    assert!(rt; bits.as_slice() == &wanted[..]);
+    assert_eq!(rt; bits.as_slice(), &wanted[..]);
     Ok(())
 }
 
@@ -62,6 +53,6 @@ fn floats_stand_for_themselves(rt: HostRuntime) -> Result<(), Fail> {
 fn an_empty_buffer_rests_at_once(rt: HostRuntime) -> Result<(), Fail> {
     let cells: [f32; 0] = [];
     let bits = played(rt.alloc(), formats::format(3, 1)?, &cells[..])?;
-    assert!(rt; bits.as_slice() == &[3, 1, 1][..]);
+    assert_eq!(rt; bits.as_slice(), &[3, 1, 1][..]);
     Ok(())
 }

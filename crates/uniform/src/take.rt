@@ -6,6 +6,7 @@ ghost use Rattle.uniform.specs.Takes.{taken, behind};
 use source::{Samples, Source};
 
 // The next n samples of a source, or all that it has.
+#[derive(Drop)]
 pub(crate) struct Take<S> {
     iter: S,
     n: Option<usize>,
@@ -22,7 +23,7 @@ impl<S: Source> Take<S> {
     pub(crate) fn into_inner(self) -> S
         ensures answer { result ≡ self.iter }
     {
-        let Take { iter, n: _ } = self;
+        let Take { iter, .. } = self;
         iter
     }
 }

@@ -5,9 +5,6 @@ use Rattle.law.specs.declared.Reply.{Reply}
 use Rattle.mixer.proofs.Performs.{Answered, answered_none, answered_more, answered_all}
 use Rattle.mixer.proofs.Mixer.perform.Goals as goal
 
-pub push_reserved-requires : goal.push_reserved-requires
-push_reserved-requires g c = omega (arith, c.loop-call.invariant.0, c.loop-call.invariant.1, c.loop-call-test.true)
-
 pub loop-call-init : goal.loop-call-init
 loop-call-init g c =
     let e = c.in_ok-replies.ensures in

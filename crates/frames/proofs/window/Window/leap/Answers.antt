@@ -2,7 +2,6 @@
 use Rattle.std.proofs.Common.{◌≡◌, ◌*◌, ◌<◌, ◌≤◌, [], ◌++◌, length, take, drop, sym, refl, ap, ◌∙◌, ap₂, subst₂, arith}
 use Rattle.rates.specs.Onward.{Lined, behind}
 use Rattle.rates.proofs.Helds.{read_lined, read_two, behind_short}
-use Rattle.frames.specs.Frames.{framed}
 use Rattle.frames.proofs.Walks.{leapt, leapt_short, read_ended}
 use Rattle.frames.proofs.window.Window.leap.Goals as goal
 
@@ -10,9 +9,9 @@ pub invariant_of-self-else-len-count : goal.invariant_of-self-else-len-count
 invariant_of-self-else-len-count g c =
     let w = c.args.self.now in
     let n = w.channels.count in
-    let xs = g.I.Samples.samples c.discard.new.input in
-    let a : framed c.refill.new.self ≡ take n xs = c.refill.ensures.filled in
-    let b : framed c.refill-else-len-count.new.self ≡ take n (drop n xs) = c.refill-else-len-count.ensures.filled ∙ ap (take n) c.refill.ensures.after in
+    let xs = g.I.Samples.samples c.discard.new.self in
+    let a : c.refill.new.self ≡ take n xs = c.refill.ensures.filled in
+    let b : c.refill-else-len-count.new.self ≡ take n (drop n xs) = c.refill-else-len-count.ensures.filled ∙ ap (take n) c.refill.ensures.after in
     record { lined = subst₂ (Lined n) (sym a) (sym b) (read_lined n xs) }
 
 pub returns-then-len-count : goal.returns-then-len-count
@@ -20,12 +19,12 @@ returns-then-len-count g c =
     let w = c.args.self.now in
     let n = w.channels.count in
     let inp = g.I.Samples.samples w.input in
-    let h : length (framed w.next) < n = omega (arith, c.len.ensures.answer, c.get-count.ensures.answer, c.if-len-count.true) in
+    let h : length w.next < n = omega (arith, c.len.ensures.answer, c.get-count.ensures.answer, c.if-len-count.true) in
     record {
       after =
           ap₂ (λ x y. x ++ (y ++ behind n y inp)) c.clear.ensures.after c.clear-then-len-count.ensures.after
           ∙ behind_short n [] inp w.channels.low
-          ∙ sym (leapt_short n c.args.frames (framed w.current) (framed w.next) inp w.lined h);
+          ∙ sym (leapt_short n c.args.frames w.current w.next inp w.lined h);
       same = refl;
       channels = refl;
       law = λ e p. e h;
@@ -37,11 +36,11 @@ returns-else-len-count g c =
     let n = w.channels.count in
     let f = c.args.frames in
     let of = g.I.Samples.samples in
-    let xs = of c.discard.new.input in
-    let nxt' = framed c.refill-else-len-count.new.self in
+    let xs = of c.discard.new.self in
+    let nxt' = c.refill-else-len-count.new.self in
     let inp' = of c.refill-else-len-count.new.input in
-    let h : n ≤ length (framed w.next) = omega (arith, c.len.ensures.answer, c.get-count.ensures.answer, c.if-len-count.false) in
-    let a : framed c.refill.new.self ≡ take n xs = c.refill.ensures.filled in
+    let h : n ≤ length w.next = omega (arith, c.len.ensures.answer, c.get-count.ensures.answer, c.if-len-count.false) in
+    let a : c.refill.new.self ≡ take n xs = c.refill.ensures.filled in
     let b : nxt' ≡ take n (drop n xs) = c.refill-else-len-count.ensures.filled ∙ ap (take n) c.refill.ensures.after in
     let d : inp' ≡ drop n (drop n xs) = c.refill-else-len-count.ensures.after ∙ ap (drop n) c.refill.ensures.after in
     let gone : xs ≡ drop (f * n) (of w.input) = c.discard.ensures.after ∙ ap (λ k. drop (f * k) (of w.input)) c.get-count.ensures.answer in
@@ -50,7 +49,7 @@ returns-else-len-count g c =
           ap₂ (λ x y. x ++ y) a (ap₂ (λ x y. x ++ behind n x y) b d)
           ∙ read_two n xs
           ∙ gone
-          ∙ sym (leapt n f (framed w.current) (framed w.next) (of w.input) w.channels.low w.lined h);
+          ∙ sym (leapt n f w.current w.next (of w.input) w.channels.low w.lined h);
       same = c.refill-else-len-count.ensures.same ∙ c.refill.ensures.same ∙ c.discard.ensures.same;
       channels = refl;
       law = λ e p.

@@ -4,7 +4,6 @@ use lib.Ieee.{Float}
 use Rattle.source.specs.Samples.{first}
 use Rattle.rates.specs.Rates.{lerp_by, both}
 use Rattle.rates.specs.Onward.{shown_by}
-use Rattle.frames.specs.Frames.{framed}
 use Rattle.frames.proofs.Walks.{shown-both, both_at, both_none}
 use Rattle.frames.proofs.Heads.{over}
 use Rattle.frames.proofs.window.Window.sample.Goals as goal
@@ -15,8 +14,8 @@ at_both n to cur nxt i h = ap (λ l. first (drop i l)) (sym (shown-both n to cur
 
 pub returns-in_err-first : goal.returns-in_err-first
 returns-in_err-first g c =
-    let cur = framed c.args.self.now.current in
-    let nxt = framed c.args.self.now.next in
+    let cur = c.args.self.now.current in
+    let nxt = c.args.self.now.next in
     let n = c.args.numerator in
     let to = c.args.denominator in
     let i = c.args.i in
@@ -26,8 +25,8 @@ returns-in_err-first g c =
 
 pub returns-in_err-second : goal.returns-in_err-second
 returns-in_err-second g c =
-    let cur = framed c.args.self.now.current in
-    let nxt = framed c.args.self.now.next in
+    let cur = c.args.self.now.current in
+    let nxt = c.args.self.now.next in
     let n = c.args.numerator in
     let to = c.args.denominator in
     let i = c.args.i in
@@ -37,8 +36,8 @@ returns-in_err-second g c =
 
 pub returns : goal.returns
 returns g c =
-    let cur = framed c.args.self.now.current in
-    let nxt = framed c.args.self.now.next in
+    let cur = c.args.self.now.current in
+    let nxt = c.args.self.now.next in
     let n = c.args.numerator in
     let to = c.args.denominator in
     let i = c.args.i in
