@@ -11,16 +11,6 @@ use common::format::Format;
 use source::Source;
 use uniform::UniformSourceIterator;
 
-// The same answer, made anew: a copy of it as one piece would wait until the sample and what says that there is one are both stored.
-fn anew(answer: Option<f32>) -> Option<f32>
-    ensures answer { result ≡ answer }
-{
-    match answer {
-        Some(sample) => Some(sample),
-        None => None,
-    }
-}
-
 // A bank, and its last list where there is a number left for it.
 #[derive(Drop)]
 pub struct Joined<B, S> {
@@ -69,9 +59,9 @@ impl<B: Bank, S: Source> Bank for Joined<B, S> {
     fn draw(&mut self, i: usize) -> Option<f32> {
         let n = self.bank.count();
         if i == n && n < MOST_LISTS {
-            anew(self.last.next())
+            self.last.next()
         } else {
-            anew(self.bank.draw(i))
+            self.bank.draw(i)
         }
     }
 }

@@ -56,6 +56,7 @@ impl fmt::Display for Fault {
     }
 }
 
+// Written out, since an `impl` by derive has no clause that says which fault comes.
 impl From<FormatRefusal> for Fault {
     ghost from_gives = { λ e r. r ≡ FormatFault e };
 

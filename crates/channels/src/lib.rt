@@ -13,11 +13,13 @@ pub struct ChannelCountConverter<I> {
     input: I,
     from: ChannelCount,
     to: ChannelCount,
+    // 0.0 before the first sample, when it is not heard: as an `Option` it is written narrow and read wide, which costs more than the sum.
     sample_repeat: f32,
     next_output_sample_pos: usize,
     ghost place: { next_output_sample_pos < to.count },
 }
 
+// `counts` and `same` say of a call what it leaves as it was, a line each: a name for it would say no more.
 impl<I: Samples> ChannelCountConverter<I> {
     ghost use Rattle.channels.specs.Converters.{converted, Gave, LeavesInput};
     ghost use Rattle.channels.specs.Converters.{sample_here, input_after_sample, held_after_sample, place_after, input_after_place};

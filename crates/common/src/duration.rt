@@ -9,6 +9,7 @@ pub struct Duration {
 }
 
 impl Duration {
+    // Named as the standard library's.
     pub fn from_nanos(nanos: u64) -> Duration
         ensures answer { result.nanos ≡ nanos }
     {

@@ -17,6 +17,8 @@ use sample_rate::SampleRateConverter;
 use source::flattened::Flattened;
 use uniform::UniformSourceIterator;
 
+// Each function here is called from C by its name, with numbers that it judges itself.
+
 // Writes the samples in frames of `to` channels, as many as there is room for, and answers how many.
 #[unsafe(no_mangle)]
 pub extern "C" fn kelpie_channels(input: &[f32], out: &mut [f32], from: u16, to: u16) -> usize

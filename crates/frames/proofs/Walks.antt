@@ -5,24 +5,11 @@ use Rattle.std.proofs.lemmas.List.{drop-drop, drop_at}
 use Rattle.source.specs.Samples.{first, rest}
 use Rattle.rates.specs.Rates.{both, lerp_by}
 use Rattle.rates.specs.Onward.{behind, Lined, shown_by}
-use Rattle.rates.proofs.Helds.{behind_short, behind_whole, read, passed}
+use Rattle.rates.proofs.Helds.{behind_short, behind_whole, passed}
 use Rattle.frames.proofs.Heads.{none_past}
 
 -- one frame on: the next frame becomes the current one, and behind a whole frame another is read
 module _ (c : ℕ) (cur nxt inp cur' nxt' inp' : List Float) (k : 0 < c) (l : Lined c cur nxt) (e : cur' ≡ nxt) where
-  pub whole_lined : nxt' ≡ take c inp → c ≤ length cur' → Lined c cur' nxt'
-  whole_lined f h =
-      let a : length cur' ≡ length nxt = ap length e in
-      let b : length nxt' ≡ min c (length inp) = ap length f ∙ length-take c inp in
-      (omega (arith, l.1), omega arith, λ p. omega (arith, l.1))
-
-  pub whole_passed : nxt' ≡ take c inp → inp' ≡ drop c inp → c ≤ length cur' →
-      cur' ++ (nxt' ++ behind c nxt' inp') ≡ drop c (cur ++ (nxt ++ behind c nxt inp))
-  whole_passed f i h =
-      let a : length cur' ≡ length nxt = ap length e in
-      let w : c ≤ length nxt = omega arith in
-      ap₂ (λ x y. x ++ y) e (ap₂ (λ x y. x ++ behind c x y) f i ∙ read c inp ∙ sym (behind_whole c nxt inp w)) ∙ passed c cur nxt inp k l
-
   pub short_passed : nxt' ≡ [] → length cur' < c → cur' ++ (nxt' ++ behind c nxt' inp) ≡ drop c (cur ++ (nxt ++ behind c nxt inp))
   short_passed f h =
       let a : length cur' ≡ length nxt = ap length e in

@@ -37,7 +37,7 @@ impl Frame {
         self.len = 0;
     }
 
-    // Takes over the samples of `other`.
+    // Takes over the samples of `other`. A frame forgets the cells past its length, so it cannot be `Copy`.
     pub fn copy_from(&mut self, other: &Frame)
         ensures after { self.new ≡ other.now }
     {
@@ -61,7 +61,8 @@ impl Frame {
     }
 
     // Takes over the samples of `next`, and reads as many more of `input` into it, or fewer at its end. One loop does both: a copy of
-    // a frame that was just filled is read in wider pieces than it was written in, and the processor waits.
+    // a frame that was just filled is read in wider pieces than it was written in, and the processor waits. `self` is reached by the
+    // place, since of two slices that one iterator writes nothing is known after the loop.
     pub(crate) fn shift<I: Samples>(&mut self, next: &mut Frame, input: &mut I)
         ensures taken { self.new ≡ next.old }
         ensures filled { next.new ≡ take (length next.old) (I.samples input.old) }
@@ -82,12 +83,14 @@ impl Frame {
 
     pub fn as_slice(&self) -> &[f32]
         ensures answer { result.now ≡ self.now }
+        ensures bound { length result.now ≤ 8 }
     {
         &self.samples[..self.len]
     }
 
     pub fn len(&self) -> usize
         ensures answer { result ≡ length self.now }
+        ensures bound { result ≤ 8 }
     {
         self.as_slice().len()
     }

@@ -17,6 +17,8 @@ pub struct Window<I> {
     ghost lined: { Lined channels.count current next },
 }
 
+// What a call leaves as it was, and what holds behind a short frame, are clauses: they are of the window before and after, and a ghost
+// field that cites the input's meaning would ask for the bound on every struct above.
 impl<I: Samples> Window<I> {
     ghost use Rattle.frames.specs.Windows.{seen, seen_past, showing_by, Ended, EndsOn};
 

@@ -8,14 +8,15 @@ use law::{Call, Reply};
 use mixer::Mixer;
 use std::alloc::{AllocError, Global};
 
-// The replies of two mixers to the same calls.
+// The replies of two mixers to the same calls, each a list as `perform` answers it.
 #[derive(Drop)]
 pub struct BothReplies {
     pub first: Vec<Reply>,
     pub second: Vec<Reply>,
 }
 
-// Makes the calls in order on both, and answers the replies of each. Without memory for the replies no call is made.
+// Makes the calls in order on both, and answers the replies of each. Without memory for the replies no call is made, which one
+// `perform` after the other could not promise.
 pub fn perform_both<P: Bank, Q: Bank>(
     heap: Global,
     first: &mut Mixer<P>,

@@ -33,7 +33,8 @@ pub trait Visitor {
         ensures after { visited (B.shape bank) (B.lists bank) self.old self.new };
 }
 
-// How many sources are joined at most is a type, since each joined source makes a bank of another type.
+// How many sources are joined at most is a type, since each joined source makes a bank of another type. The three parameters are of
+// three types that are free, so one value of all three would have them all as parameters too.
 pub trait Joins {
     ghost most: { ℕ };
 

@@ -12,7 +12,7 @@ use crate::refusal::AddRefusal;
 use std::fmt;
 use std::num::f32_to_bits_with_nan;
 
-#[derive(Clone, Copy, Debug, PartialEq, Eq)]
+#[derive(Clone, Copy, Debug, PartialEq, Eq, Hash)]
 pub enum Call {
     Add(usize),
     Next,

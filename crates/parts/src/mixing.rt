@@ -14,7 +14,7 @@ use joining::seventeen::join_all;
 use mixer::Mixer;
 use recorded::Recorded;
 
-// Cells for answers, and how many were given.
+// Cells for answers, and how many were given: the cells are the caller's, so they are no vector.
 #[derive(Drop)]
 pub(crate) struct Answers<'a> {
     out: &'a mut [f32],
@@ -33,7 +33,7 @@ impl Visitor for Answers<'_> {
     }
 }
 
-// Adds the numbers below n, in order.
+// Adds the numbers below n, in order: a number is what is added, and no index.
 fn add_all<B: Bank>(mixer: &mut Mixer<B>, n: usize)
     ensures law { (m : ℕ) (made : List (List Float)) → Follows B.lists m made [] mixer.old → Follows B.lists m made (adds n) mixer.new }
 {

@@ -24,6 +24,7 @@ pub enum Failure {
     Input,
 }
 
+// One for each error that `?` meets here.
 impl From<AllocError> for Failure {
     fn from(_error: AllocError) -> Failure {
         Failure::NoMemory

@@ -53,6 +53,7 @@ pub(crate) struct Conversion<'a, F> {
     pub(crate) make: F,
 }
 
+// Each method asks that `make` may be called, since a ghost field cannot cite a closure's members yet.
 impl<'a, C: Converter, F: Fn(Input<'a>) -> C> Conversion<'a, F> {
     fn converter(&self) -> Result<C, BufferRefusal>
         requires { F.IsAlwaysCallable self.now.make }
@@ -79,7 +80,8 @@ impl<'a, C: Converter, F: Fn(Input<'a>) -> C> Conversion<'a, F> {
         listing.write_all(&mut self.converter()?)?;
         let made = self.used(0)?.unwrap_or(0);
         let mut used = Vec::new(heap);
-        if matches!(form, Form::Full) {
+        if form == Form::Full {
+            // n is how many samples are drawn, and no index
             for n in 1..usize::MAX {
                 match self.used(n)? {
                     Some(gone) => used.push(gone)?,

@@ -10,7 +10,7 @@ use std::fmt;
 use std::num::f32_to_bits_with_nan;
 
 // How a list is written in an answer: by the bits of each sample, or by their count and hash, as where a ramp was asked for.
-#[derive(Clone, Copy)]
+#[derive(Clone, Copy, PartialEq)]
 pub(crate) enum Form {
     Full,
     Hashed,

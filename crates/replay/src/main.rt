@@ -34,6 +34,7 @@ fn answer(heap: Global, bytes: &[u8]) -> Result<String, Fault> {
     let [word, fields @ ..] = all.as_slice() else {
         return Err(Fault::NoSuchWord);
     };
+    // from a word to its function, each of which takes the fields behind it and answers a text
     match *word {
         "bank" => bank_answer(heap, fields),
         "buffer" => buffer_answer(heap, fields),

@@ -34,6 +34,7 @@ pub(crate) fn drawn_lists<B: Bank>(
     forms: &[Form],
 ) -> Result<Vec<Listing>, AllocError> {
     let mut listings = Vec::new(heap);
+    // i is a list's number, and there may be fewer forms than lists
     for i in 0..bank.count() {
         let form = forms.get(i).copied().unwrap_or(Form::Full);
         listings.push(Listing::new(heap, form))?;

@@ -7,7 +7,8 @@ use cases::reading;
 use common::duration::Duration;
 use common::format::Format;
 use span_list::known_span::KnownSpan;
-use span_list::{OpenSpan, Rest, SpanList};
+use span_list::open_span::OpenSpan;
+use span_list::{Rest, SpanList};
 use std::alloc::{AllocError, Global};
 
 // A source, and how an answer writes what is made of it.
@@ -18,7 +19,7 @@ pub(crate) struct SourceRead {
 }
 
 // Whether the length of a span is known or open.
-#[derive(Clone, Copy)]
+#[derive(Clone, Copy, PartialEq)]
 enum Kind {
     Known,
     Open,
@@ -70,7 +71,7 @@ fn resting(heap: Global, word: &str) -> Result<Rest, Fault> {
     let [kind, channels, rate] = fields.as_slice() else {
         return Err(Fault::NotASource);
     };
-    let known = matches!(Kind::read(kind)?, Kind::Known);
+    let known = Kind::read(kind)? == Kind::Known;
     let format = format(channels, rate)?;
     Ok(Rest { format, known })
 }
@@ -104,17 +105,10 @@ pub(crate) fn source(heap: Global, word: &str) -> Result<SourceRead, Fault> {
                 known.push(KnownSpan::new(format, list.samples).map_err(|_| Fault::EmptySpan)?)?;
             }
             Kind::Open => {
-                open = Some(OpenSpan {
-                    format,
-                    samples: list.samples,
-                });
+                open = OpenSpan::new(format, list.samples);
             }
         }
     }
-    let open = open.unwrap_or(OpenSpan {
-        format: rest.format,
-        samples: Vec::new(heap),
-    });
     let source = SpanList::new(known, open, rest, duration);
     Ok(SourceRead { source, form })
 }

@@ -2,49 +2,46 @@
 #![tactic(auto)]
 
 pub mod known_span;
+pub mod open_span;
 
 ghost use Rattle.std.specs.Prelude.{◌<◌, slice_index_or, length, vec_len, ◌≡◌};
+ghost use Rattle.std.specs.Option.{ForSome};
 ghost use Rattle.span_list.specs.declared.known_span.KnownSpan.{KnownSpan as Known};
 ghost use Rattle.source.specs.Meanings.{format_now};
 
 use crate::known_span::KnownSpan;
+use crate::open_span::OpenSpan;
 use common::duration::Duration;
 use common::format::{ChannelCount, Format, SampleRate};
 use source::Source;
 use std::collections::VecDeque;
 
-// An open span, of which there is none where it has no samples.
-#[derive(Drop)]
-pub struct OpenSpan {
-    pub format: Format,
-    pub samples: Vec<f32>,
-}
-
-// What a source answers once its spans are gone: a format, and a span length of 0 if it is known.
+// What a source answers once its spans are gone: a format in either case, and a span length of 0 if it is known.
 #[derive(Clone, Copy, Debug, PartialEq, Eq)]
 pub struct Rest {
     pub format: Format,
     pub known: bool,
 }
 
-// The known spans that are left, then an open one; a position in the first of them; and what the source rests at and how long it lasts.
+// The known spans that are left, then an open one if there is one; a position in the first of them; and what the source rests at and how long it lasts.
 #[derive(Drop)]
 pub struct SpanList {
     known: VecDeque<KnownSpan>,
-    open: OpenSpan,
+    open: Option<OpenSpan>,
     rest: Rest,
     duration: Option<Duration>,
     pos: usize,
     ghost inside: { ((d : Known) → 0 < length known.items → pos < vec_len (slice_index_or known.items 0 d).samples) },
+    ghost inside_open: { length known.items ≡ 0 → ForSome «open» (λ o. pos < vec_len o.samples) },
 }
 
 impl SpanList {
     ghost use Rattle.span_list.specs.SpanLists.{list_meaning, list_of};
 
-    // Known spans in order, and then an open span, unless it has no samples.
+    // Known spans in order, and then an open span if there is one.
     pub fn new(
         known: Vec<KnownSpan>,
-        open: OpenSpan,
+        open: Option<OpenSpan>,
         rest: Rest,
         duration: Option<Duration>,
     ) -> SpanList
@@ -62,9 +59,11 @@ impl SpanList {
     fn format(&self) -> Format
         ensures answer { result ≡ format_now (list_meaning self.now) }
     {
-        match self.known.front() {
-            Some(span) => span.format,
-            None if self.pos < self.open.samples.len() => self.open.format,
+        if let Some(span) = self.known.front() {
+            return span.format;
+        }
+        match &self.open {
+            Some(open) => open.format,
             None => self.rest.format,
         }
     }
@@ -84,11 +83,12 @@ impl Source for SpanList {
     }
 
     fn current_span_len(&self) -> Option<usize> {
-        match self.known.front() {
-            Some(span) => Some(span.samples.len() - self.pos),
-            None if self.pos < self.open.samples.len() => None,
+        if let Some(span) = self.known.front() {
+            return Some(span.samples.len() - self.pos);
+        }
+        match self.open {
             None if self.rest.known => Some(0),
-            None => None,
+            _ => None,
         }
     }
 
@@ -107,8 +107,13 @@ impl Source for SpanList {
             }
             return Some(sample);
         }
-        let sample = *self.open.samples.get(self.pos)?;
+        let open = self.open.as_ref()?;
+        let sample = open.samples[self.pos];
+        let length = open.samples.len();
         self.pos += 1;
+        if self.pos == length {
+            self.open = None;
+        }
         Some(sample)
     }
 }

@@ -1,6 +1,5 @@
 // Buffers of both recorded kinds.
 use crate::formats;
-use buffer::SamplesBuffer;
 use common::format::Format;
 use recorded::Recorded;
 use source::Source;
@@ -10,7 +9,7 @@ use std::test::Fail;
 
 // The bits of the samples that a buffer gives before its end, and at most ten, then what it rests at: channels, rate, and 1 where it is open.
 fn played<K: Recorded>(heap: Global, format: Format, cells: &[K]) -> Result<Vec<u32>, Fail> {
-    let mut buffer = SamplesBuffer::new(format, cells).map_err(|_| Fail::new("refused"))?;
+    let mut buffer = formats::buffer(format, cells)?;
     let samples = (0..10).filter_map(|_| buffer.next());
     let mut all: Vec<u32> = samples
         .map(|sample| f32_to_bits_with_nan(sample))

@@ -1,6 +1,5 @@
 // Channel conversion around its end.
 use crate::formats;
-use buffer::SamplesBuffer;
 use channels::ChannelCountConverter;
 use recorded::Recorded;
 use source::flattened::Flattened;
@@ -11,8 +10,7 @@ use std::test::Fail;
 fn given<K: Recorded>(cells: &[K], from: u16, to: u16, n: usize) -> Result<(usize, usize), Fail> {
     let format = formats::format(from, 48_000)?;
     let to = formats::format(to, 48_000)?;
-    let buffer = SamplesBuffer::new(format, cells).map_err(|_| Fail::new("refused"))?;
-    let input = Flattened::new(buffer);
+    let input = Flattened::new(formats::buffer(format, cells)?);
     let mut converter = ChannelCountConverter::new(input, format.channels, to.channels);
     let given = (0..n).filter(|_| converter.next().is_some()).count();
     let mut input = converter.into_inner();

@@ -1,10 +1,10 @@
 -- The front of a source, one sample on, and at its end.
-use Rattle.std.proofs.Common.{◌≡◌, ℕ, zero, suc, ◌-◌, ◌<◌, ◌≤◌, List, [], ◌∷◌, length, take, drop, Some, None, Option, sym, refl, ap, ◌∙◌, sub-one, arith}
+use Rattle.std.proofs.Common.{◌≡◌, ℕ, zero, suc, ◌≤◌, List, [], ◌∷◌, length, drop, Some, None, Option, sym, refl, ap, ◌∙◌, arith}
 use native.Mathlib.Bridge.{le_prop}
 use native.Mathlib.Nat.{le_of_suc-le}
 use lib.Ieee.{Float}
 use Rattle.common.specs.declared.format.Format.{Format}
-use Rattle.source.specs.Meanings.{Spans, silent, open_span, known_span, Meaning, known_from, all_samples, less_first, samples_of, with_spans, after_next, longest_known}
+use Rattle.source.specs.Meanings.{Spans, silent, open_span, known_span, Meaning, known_from, all_samples, less_first, samples_of, with_spans, longest_known}
 use Rattle.source.specs.Samples.{first, rest}
 use Rattle.uniform.specs.Takes.{less, behind}
 
@@ -29,25 +29,6 @@ samples_less_first (known_span f x (y ∷ xs) h ss) = refl
 pub ended_behind : (o : Option ℕ) (m : Meaning) → first (samples_of m) ≡ None → m ≡ behind o m
 ended_behind None m e = ap (with_spans m) (no_span m.spans e)
 ended_behind (Some n) m e = ap (with_spans m) (no_span m.spans e ∙ sym (less_silent n) ∙ ap (less n) (sym (no_span m.spans e)))
-
--- one sample of a front drawn
-pub take-first : (n : ℕ) (xs : List Float) → 0 < n → first (take n xs) ≡ first xs
-take-first zero xs h = absurd (omega arith)
-take-first (suc n) [] h = refl
-take-first (suc n) (x ∷ xs) h = refl
-
-pub take_rest : (n : ℕ) (xs : List Float) → 0 < n → take (n - 1) (rest xs) ≡ rest (take n xs)
-take_rest zero xs h = absurd (omega arith)
-take_rest (suc n) [] h = rw sub-one (none n)
-  where
-    none : (n : ℕ) → take n (rest {A = Float} []) ≡ rest (take (suc n) [])
-    none zero = refl
-    none (suc n) = refl
-take_rest (suc n) (x ∷ xs) h = rw sub-one
-
-pub behind_next : (n : ℕ) (m : Meaning) → 0 < n → behind (Some (n - 1)) (after_next m) ≡ behind (Some n) m
-behind_next zero m h = absurd (omega arith)
-behind_next (suc n) m h = rw sub-one
 
 -- what is left of a known span
 pub less_known : (k : ℕ) (f : Format) (xs : List Float) (h : length xs ≤ longest_known) (ss : Spans) (h' : length (drop k xs) ≤ longest_known) → k ≤ length xs →

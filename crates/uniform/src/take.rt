@@ -39,10 +39,7 @@ impl<S: Source> Samples for Take<S> {
         match self.n {
             None => self.iter.next(),
             Some(n) => {
-                if n == 0 {
-                    return None;
-                }
-                self.n = Some(n - 1);
+                self.n = Some(n.checked_sub(1)?);
                 self.iter.next()
             }
         }

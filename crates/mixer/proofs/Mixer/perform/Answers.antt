@@ -2,13 +2,8 @@
 use Rattle.std.proofs.Common.{◌+◌, List, vec_items, sym, subst, arith}
 use Rattle.law.specs.declared.Call.TheVariants.{Add}
 use Rattle.law.specs.declared.Reply.{Reply}
-use Rattle.mixer.proofs.Performs.{Answered, answered_none, answered_more, answered_all}
+use Rattle.mixer.proofs.Performs.{Answered, answered_more, answered_all}
 use Rattle.mixer.proofs.Mixer.perform.Goals as goal
-
-pub loop-call-init : goal.loop-call-init
-loop-call-init g c =
-    let e = c.in_ok-replies.ensures in
-    (e.len, e.capacity, answered_none g.B.Bank.lists c.args.calls.now c.args.self.now (vec_items c.in_ok-replies.replies) e.items)
 
 pub loop-call-preserved : goal.loop-call-preserved
 loop-call-preserved g c =

@@ -1,14 +1,7 @@
 -- A common divisor of two rates from 1 on is above zero, and leaves them within the limits.
 use Rattle.std.proofs.Common.{◌/◌, ◌<◌, mod-lt, div-add-mod', div-le_self, arith}
-use native.Mathlib.Nat.{pos_of_dvd_of_pos}
 use Rattle.rates.proofs.Divisors.{reduced_low}
 use Rattle.resampler.proofs.Pace.new.Goals as goal
-
-pub nonzero_div-numerator : goal.nonzero_div-numerator
-nonzero_div-numerator c = pos_of_dvd_of_pos c.gcd-divisor.ensures.divides.0 c.get-from_rate.ensures.low
-
-pub nonzero_div-denominator : goal.nonzero_div-denominator
-nonzero_div-denominator c = pos_of_dvd_of_pos c.gcd-divisor.ensures.divides.0 c.get-from_rate.ensures.low
 
 pub nonzero_div-result : goal.nonzero_div-result
 nonzero_div-result c = reduced_low c.get-to_rate.result c.gcd-divisor.result c.get-to_rate.ensures.low c.gcd-divisor.ensures.divides.1
@@ -31,6 +24,3 @@ invariant_of-result c =
       divided = omega (arith, div-add-mod' x y);
       below = mod-lt x low;
     }
-
-pub returns : goal.returns
-returns c = record { from = cc; to = cc }

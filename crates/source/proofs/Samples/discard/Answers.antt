@@ -22,8 +22,3 @@ returns-then-is_none g c =
           ∙ sym (drop_of_length-le s (omega (arith, e, c.loop-test.true)));
       same = c.next.ensures.same ∙ c.loop.invariant.1;
     }
-
-pub returns : goal.returns
-returns g c =
-    let n : c.loop.counter ≡ c.args.n = omega arith in
-    record { after = c.loop.invariant.0 ∙ ap (λ k. drop k (g.Self.Samples.samples c.args.self.now)) n; same = c.loop.invariant.1 }

@@ -18,7 +18,7 @@ returns-then-n-lt-MOST_LISTS g c =
     let h : length ls < most_lists = omega arith in
     let left = ap samples_of c.next.ensures.after ∙ stream_drawn j.last.format (left_of of j.last) in
     record {
-      answer = c.anew.ensures.answer ∙ c.next.ensures.answer ∙ ap first (sym (ap (λ i. get_or (with_list ls l) i []) e ∙ own_at ls l h));
+      answer = c.next.ensures.answer ∙ ap first (sym (ap (λ i. get_or (with_list ls l) i []) e ∙ own_at ls l h));
       after = ap (with_list ls) left ∙ own_drawn ls l h ∙ ap (drawn_at (with_list ls l)) (sym e);
       same = refl;
       law = own_streams _ _;
@@ -34,7 +34,7 @@ returns-else-i-n g c =
       | else-i-n-via-else-i-n w ↦ inl (λ e. w.if-i-n.false (e ∙ sym c.count-n.ensures.answer))
     ] in
     record {
-      answer = c.anew-else-i-n.ensures.answer ∙ c.draw.ensures.answer ∙ ap first (sym (other_at ls l c.args.i o));
+      answer = c.draw.ensures.answer ∙ ap first (sym (other_at ls l c.args.i o));
       after = ap (λ ks. with_list ks l) c.draw.ensures.after ∙ other_drawn ls l c.args.i o;
       same = c.draw.ensures.same;
       law = own_streams _ _;

@@ -1,34 +1,9 @@
 -- Past both frames, either nothing is left, or the window is read anew.
-use Rattle.std.proofs.Common.{◌≡◌, ◌*◌, ◌<◌, ◌≤◌, [], ◌++◌, length, take, drop, sym, refl, ap, ◌∙◌, ap₂, subst₂, arith}
-use Rattle.rates.specs.Onward.{Lined, behind}
-use Rattle.rates.proofs.Helds.{read_lined, read_two, behind_short}
-use Rattle.frames.proofs.Walks.{leapt, leapt_short, read_ended}
+use Rattle.std.proofs.Common.{◌≡◌, ◌*◌, ◌≤◌, ◌++◌, length, take, drop, sym, refl, ap, ◌∙◌, ap₂, arith}
+use Rattle.rates.specs.Onward.{behind}
+use Rattle.rates.proofs.Helds.{read_two}
+use Rattle.frames.proofs.Walks.{leapt, read_ended}
 use Rattle.frames.proofs.window.Window.leap.Goals as goal
-
-pub invariant_of-self-else-len-count : goal.invariant_of-self-else-len-count
-invariant_of-self-else-len-count g c =
-    let w = c.args.self.now in
-    let n = w.channels.count in
-    let xs = g.I.Samples.samples c.discard.new.self in
-    let a : c.refill.new.self ≡ take n xs = c.refill.ensures.filled in
-    let b : c.refill-else-len-count.new.self ≡ take n (drop n xs) = c.refill-else-len-count.ensures.filled ∙ ap (take n) c.refill.ensures.after in
-    record { lined = subst₂ (Lined n) (sym a) (sym b) (read_lined n xs) }
-
-pub returns-then-len-count : goal.returns-then-len-count
-returns-then-len-count g c =
-    let w = c.args.self.now in
-    let n = w.channels.count in
-    let inp = g.I.Samples.samples w.input in
-    let h : length w.next < n = omega (arith, c.len.ensures.answer, c.get-count.ensures.answer, c.if-len-count.true) in
-    record {
-      after =
-          ap₂ (λ x y. x ++ (y ++ behind n y inp)) c.clear.ensures.after c.clear-then-len-count.ensures.after
-          ∙ behind_short n [] inp w.channels.low
-          ∙ sym (leapt_short n c.args.frames w.current w.next inp w.lined h);
-      same = refl;
-      channels = refl;
-      law = λ e p. e h;
-    }
 
 pub returns-else-len-count : goal.returns-else-len-count
 returns-else-len-count g c =

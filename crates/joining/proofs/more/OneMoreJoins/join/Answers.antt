@@ -2,18 +2,8 @@
 use Rattle.std.proofs.Common.{◌≡◌, suc, ◌∷◌, drop, sym, ap, ◌∙◌}
 use Rattle.source.specs.Samples.{rest}
 use Rattle.joining.specs.Joining.{spans_of}
-use Rattle.joining.proofs.Joining.{with_none, none_first, some_first, joined_first}
+use Rattle.joining.proofs.Joining.{some_first, joined_first}
 use Rattle.joining.proofs.more.OneMoreJoins.join.Goals as goal
-
-pub returns-in-None : goal.returns-in-None
-returns-in-None g c =
-    let f = g.B.Bank.shape c.args.bank in
-    let ls = g.B.Bank.lists c.args.bank in
-    let e = none_first _ (ap (spans_of g.Q.Item.Source.meaning) (sym c.in-None.is) ∙ c.next_source.ensures.answer) in
-    record {
-      law = rw (e, with_none f ls) c.visit.ensures.after;
-      after = c.next_source.ensures.after ∙ ap rest e ∙ sym (ap (drop (suc g.N.Joins.most)) e);
-    }
 
 pub returns-in-Some : goal.returns-in-Some
 returns-in-Some g c =

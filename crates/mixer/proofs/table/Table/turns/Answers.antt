@@ -8,9 +8,6 @@ use Rattle.mixer.proofs.Answering.{sum_more, sum_all, all_turned}
 use Rattle.mixer.proofs.Stepping.{Took, partway_more, gave_term}
 use Rattle.mixer.proofs.table.Table.turns.Goals as goal
 
-pub invariant_of-self : goal.invariant_of-self
-invariant_of-self g c = record { as_many = c.loop-number.invariant.0; numbers = c.args.self.now.numbers }
-
 pub loop-number-preserved : goal.loop-number-preserved
 loop-number-preserved g c =
     let x = c.args.self.now in
