@@ -19,7 +19,8 @@ pub struct ChannelCountConverter<I> {
     ghost place: { next_output_sample_pos < to.count },
 }
 
-// `counts` and `same` say of a call what it leaves as it was, a line each: a name for it would say no more.
+// `counts` and `same` say of a call what it leaves as it was, a line each: a name for it would say no more. `law` is of the input that
+// the converter was made over, which no field holds.
 impl<I: Samples> ChannelCountConverter<I> {
     ghost use Rattle.channels.specs.Converters.{converted, Gave, LeavesInput};
     ghost use Rattle.channels.specs.Converters.{sample_here, input_after_sample, held_after_sample, place_after, input_after_place};

@@ -1,4 +1,4 @@
-// The short worked examples of the rules, proved together as one statement.
+// The short worked examples of the rules, proved together as one statement, which the contract of a function that answers yes names.
 #![tactic(auto)]
 
 ghost use Rattle.std.specs.Prelude.{◌≡◌, true};

@@ -51,6 +51,7 @@ impl Frame {
         ensures after { I.samples input.new ≡ drop channels.count (I.samples input.old) }
         ensures same { I.beyond input.new ≡ I.beyond input.old }
     {
+        // how many came, and no index
         let mut len = 0;
         for cell in &mut self.samples[..channels.get() as usize] {
             let Some(sample) = input.next() else { break };

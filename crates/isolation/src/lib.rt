@@ -1,4 +1,5 @@
-// The law of isolation: what one source holds in one channel is heard on no other channel.
+// The law of isolation: what one source holds in one channel is heard on no other channel. A function here answers yes, and its contract
+// is the statement, since a theorem counts only where a contract names it.
 #![tactic(auto)]
 
 pub mod both;

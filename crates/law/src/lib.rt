@@ -25,7 +25,7 @@ pub enum Reply {
 }
 
 impl Reply {
-    // The number of the refusal, where the reply is one.
+    // The number of the refusal that the panel shows, where the reply is one.
     pub fn number(&self) -> Option<u8>
         ensures answer { result ≡ refusal_number self.now }
     {

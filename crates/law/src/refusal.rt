@@ -9,6 +9,7 @@ pub enum AddRefusal {
 }
 
 impl AddRefusal {
+    // The number that the panel shows.
     pub fn number(&self) -> u8
         ensures answer { result ≡ number_of self.now }
     {

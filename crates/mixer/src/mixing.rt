@@ -37,7 +37,7 @@ fn phase_after(phase: u16, channels: ChannelCount) -> u16
 }
 
 impl<B: Bank> Mixer<B> {
-    // At a frame's start the waiting sources begin.
+    // At a frame's start the waiting sources begin. What stays as it was is a line each: a name for it would say no more.
     fn start(&mut self)
         ensures law { (m : ℕ) (made : List (List Float)) (h : List Call) → Follows B.lists m made h self.old →
             Partway m made h (suc (answers h)) (λ _. answers h) self.new.table.places self.new.table.order.items (B.lists self.new.bank) }

@@ -115,7 +115,7 @@ impl Table {
         Ok(())
     }
 
-    // The number of a source that plays, or none where none does.
+    // The number of a source that plays, or none where none does. A number is a source's, and each source has its place.
     pub(crate) fn playing(&self) -> Option<usize>
         ensures answer { result ≡ find (λ number. is_playing (slice_index_or self.now.places number idle).state) self.now.order.items }
     {

@@ -21,6 +21,7 @@ pub(crate) trait Converter: Samples + Drop {
     fn into_input(self) -> Self::Input;
 }
 
+// One for each converter, whose `into_inner` is no method of a trait.
 impl<I: Samples + Drop> Converter for ChannelCountConverter<I> {
     type Input = I;
 

@@ -3,7 +3,7 @@ ghost use Rattle.std.specs.Prelude.{◌≡◌, ◌-◌, ◌^◌, ◌≤◌, min,
 
 use source::Samples;
 
-// Draws n samples, and answers whether there were as many.
+// Draws n samples, and answers whether there were as many, which `discard` does not.
 pub(crate) fn draw<S: Samples>(input: &mut S, n: usize) -> bool
     ensures answer { result ≡ nat_le n (length (S.samples input.old)) }
     ensures after { S.samples input.new ≡ drop n (S.samples input.old) }
@@ -16,7 +16,7 @@ pub(crate) fn draw<S: Samples>(input: &mut S, n: usize) -> bool
     true
 }
 
-// Draws all samples, and answers how many there were.
+// Draws all samples, and answers how many there were: n counts them, and is no index.
 pub(crate) fn count<S: Samples>(input: &mut S) -> usize
     ensures answer { result ≡ min (length (S.samples input.old)) (2 ^ 64 - 1) }
     ensures after { S.samples input.new ≡ [] }

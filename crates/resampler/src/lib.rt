@@ -58,7 +58,8 @@ impl Pace {
     }
 }
 
-// `pace`, `channels` and `same` say of a call what it leaves as it was, a line each: a name for it would say no more.
+// `pace`, `channels` and `same` say of a call what it leaves as it was, a line each: a name for it would say no more. `law` is of the
+// input that the resampler was made over, which no field holds.
 impl<I: Samples> Resampler<I> {
     ghost use Rattle.resampler.specs.Resamplers.{remaining, following, sample_here, place_next, steps_next, Drawn, LeavesInput};
 

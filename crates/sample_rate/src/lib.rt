@@ -18,6 +18,7 @@ pub struct SampleRateConverter<I> {
     way: Way<I>,
 }
 
+// `same` says of a call what it leaves as it was, in a line; `law` is of the input that the converter was made over, which no field holds.
 impl<I: Samples> SampleRateConverter<I> {
     ghost use Rattle.sample_rate.specs.Converters.{converted, inner, Given, LeavesInput};
 

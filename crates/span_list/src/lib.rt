@@ -23,7 +23,7 @@ pub struct Rest {
     pub known: bool,
 }
 
-// The known spans that are left, then an open one if there is one; a position in the first of them; and what the source rests at and how long it lasts.
+// The known spans that are left, then an open one if there is one; a position in the first of them, which stays from call to call; and what the source rests at and how long it lasts.
 #[derive(Drop)]
 pub struct SpanList {
     known: VecDeque<KnownSpan>,

@@ -62,7 +62,7 @@ impl<S: Source> UniformSourceIterator<S> {
         inner.unwrap().into_inner().into_inner().into_inner()
     }
 
-    // The next sample of the piece.
+    // The next sample of the piece. `same`, `format` and `duration`, here and below, are what a call leaves as it was, a line each.
     fn draw(&mut self) -> Option<f32>
         ensures answer { result ≡ first (piece_of S.meaning self.old.inner) }
         ensures after { piece_of S.meaning self.new.inner ≡ rest (piece_of S.meaning self.old.inner) }
