@@ -1,5 +1,5 @@
 -- What a sample at a place of a list says of the list.
-use Rattle.std.proofs.Common.{◌≡◌, ℕ, zero, suc, ◌<◌, ◌≤◌, List, [], ◌∷◌, ◌++◌, length, take, drop, is_some, Some, None, sym, refl, ap, arith}
+use Rattle.std.proofs.Common.{◌≡◌, ℕ, zero, suc, ◌<◌, ◌≤◌, List, [], ◌∷◌, ◌++◌, length, get_or, take, drop, is_some, Some, None, sym, refl, ap, arith}
 use lib.Ieee.{Float}
 use Rattle.source.proofs.Draws.{first_none}
 use Rattle.source.specs.Samples.{first, rest}
@@ -29,3 +29,9 @@ none_past [] zero h = refl
 none_past [] (suc i) h = refl
 none_past (y ∷ s) zero h = absurd (omega arith)
 none_past (y ∷ s) (suc i) h = none_past s i (omega arith)
+
+-- reading a place
+pub first_at : (l : List Float) (i : ℕ) (d : Float) → i < length l → Some (get_or l i d) ≡ first (drop i l)
+first_at [] i d h = absurd (omega arith)
+first_at (x ∷ l) zero d h = refl
+first_at (x ∷ l) (suc i) d h = first_at l i d (omega arith)

@@ -2,6 +2,7 @@
 ghost use Rattle.rates.specs.Onward.{Lined};
 ghost use Rattle.std.specs.Prelude.{◌≡◌, ◌+◌, [], length, drop, ◌==◌};
 ghost use Rattle.source.specs.Samples.{first};
+ghost use Rattle.frames.specs.Frames.{framed};
 
 use crate::frame::Frame;
 use common::format::ChannelCount;
@@ -14,7 +15,7 @@ pub struct Window<I> {
     current: Frame,
     next: Frame,
     channels: ChannelCount,
-    ghost lined: { Lined channels.count current next },
+    ghost lined: { Lined channels.count (framed current) (framed next) },
 }
 
 // What a call leaves as it was, and what holds behind a short frame, are clauses: they are of the window before and after, and a ghost
@@ -88,7 +89,7 @@ impl<I: Samples> Window<I> {
     }
 
     pub fn is_last(&self) -> bool
-        ensures answer { result ≡ (length self.now.next == 0) }
+        ensures answer { result ≡ (length (framed self.now.next) == 0) }
     {
         self.next.len() == 0
     }

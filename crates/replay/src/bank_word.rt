@@ -46,7 +46,7 @@ pub(crate) fn bank_answer(heap: Global, fields: &[&str]) -> Result<String, Fault
         count: 0,
         listings: Ok(Vec::new(heap)),
     };
-    let mut queue = SourceList::new(sources::plain(heap, read)?);
+    let mut queue = SourceList::new(read);
     let _bank = join_all(BareBank::new(format), &mut queue, &mut lists);
     let count = lists.count;
     let listings = lists.listings?;

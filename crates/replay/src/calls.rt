@@ -1,10 +1,10 @@
 // Calls on a mixer, read from a word, and their replies written as one: n=ANSWER for a next and aI=ANSWER for an add of number I.
 use crate::words;
-use crate::words::Joined;
 use cases::fault::Fault;
 use cases::reading;
 use law::{Call, Reply};
 use std::alloc::{AllocError, Global};
+use std::fmt;
 
 // `n` for a next, and `a` with a number for an add.
 fn call(word: &str) -> Result<Call, Fault> {
@@ -22,10 +22,29 @@ pub(crate) fn calls(heap: Global, word: &str) -> Result<Vec<Call>, Fault> {
     words::parts(heap, word, ',', |part| call(part))
 }
 
-fn shown(heap: Global, call: Call, reply: &Reply) -> Result<String, AllocError> {
-    match call {
-        Call::Add(number) => format!(in heap; "a{number}={reply}"),
-        Call::Next => format!(in heap; "n={reply}"),
+// Calls with their replies, as they are written in one word. They are written one by one and not gathered first, so that an answer needs
+// no more memory than its text.
+#[derive(Drop)]
+struct Answered<'a> {
+    calls: &'a [Call],
+    replies: &'a [Reply],
+}
+
+impl fmt::Display for Answered<'_> {
+    fn fmt<W: fmt::Write>(&self, f: &mut fmt::Formatter<W>) -> fmt::Result {
+        if self.calls.is_empty() {
+            return f.write_str("-");
+        }
+        for (i, (call, reply)) in self.calls.iter().zip(self.replies).enumerate() {
+            if i > 0 {
+                f.write_str(",")?;
+            }
+            match call {
+                Call::Add(number) => write!(f, "a{number}={reply}")?,
+                Call::Next => write!(f, "n={reply}")?,
+            }
+        }
+        Ok(())
     }
 }
 
@@ -35,9 +54,5 @@ pub(crate) fn answers(
     calls: &[Call],
     replies: &[Reply],
 ) -> Result<String, AllocError> {
-    let pairs = calls.iter().zip(replies);
-    let all: Vec<String> = pairs
-        .map(|(call, reply)| shown(heap, *call, reply))
-        .try_collect(heap)?;
-    format!(in heap; "{}", Joined::new(&all, ','))
+    format!(in heap; "{}", Answered { calls, replies })
 }

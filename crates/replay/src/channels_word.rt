@@ -22,10 +22,6 @@ pub(crate) fn channels_answer(heap: Global, fields: &[&str]) -> Result<String, F
         cells: list.samples.as_slice(),
         make: |input| ChannelCountConverter::new(input, channels, to),
     };
-    let Converted {
-        listing,
-        made: _,
-        used,
-    } = conversion.converted(heap, list.form)?;
+    let Converted { listing, used } = conversion.converted(heap, list.form)?;
     Ok(format!(in heap; "{listing} {}", Joined::new(&used, ','))?)
 }

@@ -38,11 +38,10 @@ impl<I: Samples + Drop> Converter for SampleRateConverter<I> {
     }
 }
 
-// What a list converts to, how much of it the converter uses when it is made, and how much each output sample has used.
+// What a list converts to, and how much of it each output sample has used.
 #[derive(Drop)]
 pub(crate) struct Converted {
     pub(crate) listing: Listing,
-    pub(crate) made: usize,
     pub(crate) used: Vec<usize>,
 }
 
@@ -64,7 +63,7 @@ impl<'a, C: Converter, F: Fn(Input<'a>) -> C> Conversion<'a, F> {
     }
 
     // How many input samples are gone once n output samples were drawn; none where there are fewer.
-    fn used(&self, n: usize) -> Result<Option<usize>, BufferRefusal>
+    pub(crate) fn used(&self, n: usize) -> Result<Option<usize>, BufferRefusal>
         requires { F.IsAlwaysCallable self.now.make }
     {
         let mut converter = self.converter()?;
@@ -79,7 +78,6 @@ impl<'a, C: Converter, F: Fn(Input<'a>) -> C> Conversion<'a, F> {
     {
         let mut listing = Listing::new(heap, form);
         listing.write_all(&mut self.converter()?)?;
-        let made = self.used(0)?.unwrap_or(0);
         let mut used = Vec::new(heap);
         if form == Form::Full {
             // n is how many samples are drawn, and no index
@@ -90,10 +88,6 @@ impl<'a, C: Converter, F: Fn(Input<'a>) -> C> Conversion<'a, F> {
                 }
             }
         }
-        Ok(Converted {
-            listing,
-            made,
-            used,
-        })
+        Ok(Converted { listing, used })
     }
 }

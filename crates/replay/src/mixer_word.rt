@@ -43,7 +43,7 @@ pub(crate) fn mixer_answer(heap: Global, fields: &[&str]) -> Result<String, Faul
         replies: Ok(Vec::new(heap)),
     };
     let format = numbers.judged()?;
-    let mut queue = SourceList::new(sources::plain(heap, read)?);
+    let mut queue = SourceList::new(read);
     let _bank = join_all(BareBank::new(format), &mut queue, &mut mix);
     let replies = mix.replies?;
     Ok(calls::answers(heap, mix.calls.as_slice(), replies.as_slice())?)

@@ -23,10 +23,7 @@ pub(crate) fn rate_answer(heap: Global, fields: &[&str]) -> Result<String, Fault
         cells: list.samples.as_slice(),
         make: |input| SampleRateConverter::new(input, format.rate, to, format.channels),
     };
-    let Converted {
-        listing,
-        made,
-        used,
-    } = conversion.converted(heap, list.form)?;
+    let made = conversion.used(0)?.unwrap_or(0);
+    let Converted { listing, used } = conversion.converted(heap, list.form)?;
     Ok(format!(in heap; "{listing} {made} {}", Joined::new(&used, ','))?)
 }

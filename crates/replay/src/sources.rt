@@ -1,15 +1,18 @@
 // Sources, read from a word: TOTAL;REST;SPAN;SPAN.. with REST k/C/R or o/C/R and SPAN k/C/R/LIST or o/C/R/LIST.
+ghost use Rattle.span_list.specs.SpanLists.{list_meaning};
+
 use crate::formats::FormatNumbers;
 use crate::lists::{Form, SampleList};
 use crate::{lists, words};
 use cases::fault::Fault;
 use cases::reading;
 use common::duration::Duration;
-use common::format::Format;
+use common::format::{ChannelCount, Format, SampleRate};
+use source::Source;
 use span_list::known_span::KnownSpan;
 use span_list::open_span::OpenSpan;
 use span_list::{Rest, SpanList};
-use std::alloc::{AllocError, Global};
+use std::alloc::Global;
 
 // A source, and how an answer writes what is made of it.
 #[derive(Drop)]
@@ -118,7 +121,27 @@ pub(crate) fn sources(heap: Global, word: &str) -> Result<Vec<SourceRead>, Fault
     words::parts(heap, word, '+', |part| source(heap, part))
 }
 
-// The sources alone, in order.
-pub(crate) fn plain(heap: Global, read: Vec<SourceRead>) -> Result<Vec<SpanList>, AllocError> {
-    read.into_iter().map(|one| one.source).collect(heap)
+// What was read is the source itself, so that a list of them is handed on as it is and none is copied to another list.
+impl Source for SourceRead {
+    ghost meaning = { λ r. list_meaning r.source };
+
+    fn channels(&self) -> ChannelCount {
+        self.source.channels()
+    }
+
+    fn sample_rate(&self) -> SampleRate {
+        self.source.sample_rate()
+    }
+
+    fn current_span_len(&self) -> Option<usize> {
+        self.source.current_span_len()
+    }
+
+    fn total_duration(&self) -> Option<Duration> {
+        self.source.total_duration()
+    }
+
+    fn next(&mut self) -> Option<f32> {
+        self.source.next()
+    }
 }

@@ -2,6 +2,7 @@
 use Rattle.std.proofs.Common.{◌≡◌, ℕ, ◌+◌, ◌*◌, ◌<◌, ◌≤◌, ◌⊎◌, List, ◌++◌, length, sym, ap, ◌∙◌, subst, subst₂, inl, inr, ⊎_elim, arith, length-append}
 use lib.Ieee.{Float}
 use Rattle.std.proofs.lemmas.Bool.{cases_lt}
+use Rattle.frames.specs.Frames.{framed}
 use Rattle.rates.specs.Walks.{Walk, beyond_frames}
 use Rattle.rates.proofs.Helds.{behind_short}
 use Rattle.rates.proofs.Walked.{walk_start, walk_give, walk_begin, walk_left, window_left}
@@ -19,17 +20,17 @@ module _ {I : Type 0} (of : I → List Float) (xs : List Float) (m : ℕ) where
   walk_on s d l =
       let w = s.window in
       let c = w.channels.count in
-      let b : s.at < c = omega (arith, shown-within c s.n s.pace.to w.current w.next w.lined) in
+      let b : s.at < c = omega (arith, shown-within c s.n s.pace.to (framed w.current) (framed w.next) w.lined) in
       walk_give s.pace.from s.pace.to c xs s.pace.to_low w.channels.low m s.n s.at (seen of w) d.walk b
 
   -- an output frame ends where it is whole, or with the input
-  at_end : (s : Resampler I) → Drawn of xs m s → length (showing s.n s.pace.to s.window) ≤ s.at → 0 < length s.window.next →
+  at_end : (s : Resampler I) → Drawn of xs m s → length (showing s.n s.pace.to s.window) ≤ s.at → 0 < length (framed s.window.next) →
       (s.at ≡ s.window.channels.count) ⊎ (length (seen of s.window) ≤ 2 * s.window.channels.count)
   at_end s d h k =
       let w = s.window in
       let c = w.channels.count in
-      let cur = w.current in
-      let nxt = w.next in
+      let cur = framed w.current in
+      let nxt = framed w.next in
       let e = shown_long c s.n s.pace.to cur nxt w.lined k in
       ⊎_elim
       (λ l.
@@ -40,7 +41,7 @@ module _ {I : Type 0} (of : I → List Float) (xs : List Float) (m : ℕ) where
       (cases_lt s.at c)
 
   -- the first sample of the next output frame
-  pub walk_next : (s t : Resampler I) → Drawn of xs m s → length (showing s.n s.pace.to s.window) ≤ s.at → 0 < length s.window.next →
+  pub walk_next : (s t : Resampler I) → Drawn of xs m s → length (showing s.n s.pace.to s.window) ≤ s.at → 0 < length (framed s.window.next) →
       t.pace ≡ s.pace → t.n ≡ place_next s → seen of t.window ≡ seen_past of (steps_next s) s.window → t.window.channels ≡ s.window.channels →
       Walk t.pace.from t.pace.to t.window.channels.count xs (m + 1) t.n 1 (seen of t.window)
   walk_next s t d h k tp tn ts tc =
@@ -55,7 +56,7 @@ module _ {I : Type 0} (of : I → List Float) (xs : List Float) (m : ℕ) where
   pub drawn-left : (s : Resampler I) → Drawn of xs m s → of s.window.input ≡ beyond_frames s.pace.from s.pace.to s.window.channels.count xs m
   drawn-left s d =
       let w = s.window in
-      window_left w.channels.count w.current w.next (of w.input) w.channels.low w.lined d.ended
+      window_left w.channels.count (framed w.current) (framed w.next) (of w.input) w.channels.low w.lined d.ended
       ∙ walk_left s.pace.from s.pace.to w.channels.count xs s.pace.to_low w.channels.low m s.n s.at (seen of w) d.walk
 
 -- at the start

@@ -3,6 +3,7 @@ use Rattle.std.specs.Prelude.{◌≡◌, ℕ, ◌+◌, ◌/◌, ◌%◌, true, L
 use Rattle.source.specs.Samples.{first}
 use Rattle.rates.specs.Onward.{held, onward}
 use Rattle.rates.specs.Walks.{Walk, beyond_frames}
+use Rattle.frames.specs.Frames.{framed}
 use Rattle.frames.specs.Windows.{left, seen, showing, Ended}
 use Rattle.resampler.specs.declared.Resampler.{Resampler}
 
@@ -10,7 +11,7 @@ use Rattle.resampler.specs.declared.Resampler.{Resampler}
 abbrev pub remaining : {I : Type 0} → (I → List Float) → Resampler I → List Float
 remaining of s =
     let w = s.window in
-    held s.n s.pace.from s.pace.to w.channels.count s.at w.current w.next (left of w)
+    held s.n s.pace.from s.pace.to w.channels.count s.at (framed w.current) (framed w.next) (left of w)
 
 -- What it gives from the next output frame on.
 abbrev pub following : {I : Type 0} → (I → List Float) → Resampler I → List Float

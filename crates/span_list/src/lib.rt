@@ -36,7 +36,7 @@ pub struct SpanList {
 }
 
 impl SpanList {
-    ghost use Rattle.span_list.specs.SpanLists.{list_meaning, list_of};
+    ghost use Rattle.span_list.specs.SpanLists.{list_meaning, list_of, list_of_parts};
 
     // Known spans in order, and then an open span if there is one.
     pub fn new(
@@ -54,6 +54,25 @@ impl SpanList {
             duration,
             pos: 0,
         }
+    }
+
+    // The same for an open span told by its format and its samples, of which there is none where it has no samples, and for what the
+    // source rests at told by a format and a flag.
+    pub fn from_parts(
+        known: Vec<KnownSpan>,
+        open_format: Format,
+        open: Vec<f32>,
+        rests_at: Format,
+        rests_known: bool,
+        duration: Option<Duration>,
+    ) -> SpanList
+        ensures answer { list_meaning result ≡ list_of_parts known.items open_format «open».items rests_at rests_known duration }
+    {
+        let rest = Rest {
+            format: rests_at,
+            known: rests_known,
+        };
+        SpanList::new(known, OpenSpan::new(open_format, open), rest, duration)
     }
 
     fn format(&self) -> Format

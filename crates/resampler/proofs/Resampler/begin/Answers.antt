@@ -1,6 +1,7 @@
 -- The steps and the rest carried along are the quotient and the remainder of the next place.
 use Rattle.std.proofs.Common.{◌≡◌, ◌+◌, ◌*◌, ◌/◌, ◌%◌, ◌<◌, drop, sym, refl, ap, ◌∙◌, ap₂, add-mul, one-mul, arith}
 use lib.Arith.{digits_div, digits_mod}
+use Rattle.frames.specs.Frames.{framed}
 use Rattle.rates.specs.Onward.{onward}
 use Rattle.rates.proofs.Helds.{begun, onward_past}
 use Rattle.frames.specs.Windows.{seen}
@@ -27,7 +28,7 @@ returns g c =
     let v : s.n + p.from ≡ steps * p.to + n = omega (arith, q) in
     record {
       after =
-          sym (begun n p.from p.to w.channels.count w.current w.next (g.I.Samples.samples w.input) b p.from_low w.channels.low w.lined)
+          sym (begun n p.from p.to w.channels.count (framed w.current) (framed w.next) (g.I.Samples.samples w.input) b p.from_low w.channels.low w.lined)
           ∙ ap₂ (onward n p.from p.to) (ap (λ k. k.count) c.skip.ensures.channels) c.skip.ensures.after
           ∙ sym (onward_past steps n p.from p.to s.window.channels.count (seen g.I.Samples.samples s.window) p.to_low s.window.channels.low)
           ∙ ap (λ r. onward r p.from p.to s.window.channels.count (seen g.I.Samples.samples s.window)) q;

@@ -1,5 +1,6 @@
 -- A resampler at its start has all of its input before it.
 use Rattle.std.proofs.Common.{sym, refl, ap, ◌∙◌, ap₂}
+use Rattle.frames.specs.Frames.{framed}
 use Rattle.rates.specs.Onward.{onward}
 use Rattle.rates.proofs.Places.{onward_start}
 use Rattle.rates.proofs.Helds.{begun}
@@ -12,8 +13,8 @@ returns g c =
     let p = c.args.pace in
     let e = c.new.ensures in
     let of = g.I.Samples.samples in
-    let cur = w.current in
-    let nxt = w.next in
+    let cur = framed w.current in
+    let nxt = framed w.next in
     record {
       answer =
           sym (begun 0 p.from p.to w.channels.count cur nxt (of w.input) p.to_low p.from_low w.channels.low w.lined)

@@ -2,6 +2,7 @@
 use Rattle.std.proofs.Common.{◌≡◌, ℕ, ◌+◌, ◌<◌, ◌≤◌, false, eqb, List, [], ◌++◌, length, drop, Some, None, Option, sym, refl, ap, ◌∙◌, subst, ap₂, arith}
 use lib.Ieee.{Float}
 use Rattle.std.proofs.lemmas.Bool.{eqb-true, eqb-false, true≢false}
+use Rattle.frames.specs.Frames.{framed}
 use Rattle.source.specs.Meanings.{Meaning}
 use Rattle.source.specs.Samples.{first, rest}
 use Rattle.rates.specs.Onward.{shown, later}
@@ -18,21 +19,21 @@ module _ {I : Type 0} (of : I → List Float) (s : Resampler I) where
   -- what follows the output frame
   abbrev behind-shown : List Float
   behind-shown =
-      later s.n s.pace.from s.pace.to s.window.channels.count s.window.current s.window.next (left of s.window)
+      later s.n s.pace.from s.pace.to s.window.channels.count (framed s.window.current) (framed s.window.next) (left of s.window)
 
   -- a sample says that the output frame has one more
   inside : (x : Float) → Some x ≡ sample_here s → s.at < length (showing s.n s.pace.to s.window)
   inside x h = (here (showing s.n s.pace.to s.window) s.at x h).less
 
   -- at its end the next one follows, or nothing
-  past : length (showing s.n s.pace.to s.window) ≤ s.at → 0 < length s.window.next → remaining of s ≡ following of s
+  past : length (showing s.n s.pace.to s.window) ≤ s.at → 0 < length (framed s.window.next) → remaining of s ≡ following of s
   past h k =
-      held_on s.n s.pace.from s.pace.to s.window.channels.count s.at s.window.current s.window.next (left of s.window)
+      held_on s.n s.pace.from s.pace.to s.window.channels.count s.at (framed s.window.current) (framed s.window.next) (left of s.window)
       h k
 
-  ended : length (showing s.n s.pace.to s.window) ≤ s.at → length s.window.next ≡ 0 → remaining of s ≡ []
+  ended : length (showing s.n s.pace.to s.window) ≤ s.at → length (framed s.window.next) ≡ 0 → remaining of s ≡ []
   ended h e =
-      held_end s.n s.pace.from s.pace.to s.window.channels.count s.at s.window.current s.window.next (left of s.window)
+      held_end s.n s.pace.from s.pace.to s.window.channels.count s.at (framed s.window.current) (framed s.window.next) (left of s.window)
       h e
 
 some≢none : {x : Float} → ◌≡◌ {A = Option Float} (Some x) None → ⊥
@@ -46,7 +47,7 @@ overflow_add-self g c =
     let s = c.args.self.now in
     let w = s.window in
     let h = inside g.I.Samples.samples s c.in-Some.x c.in-Some.ensures.answer in
-    omega (arith, shown-within w.channels.count s.n s.pace.to w.current w.next w.lined, w.channels.high)
+    omega (arith, shown-within w.channels.count s.n s.pace.to (framed w.current) (framed w.next) w.lined, w.channels.high)
 
 pub returns-in-Some : goal.returns-in-Some
 returns-in-Some g c =
@@ -76,7 +77,7 @@ returns-in-Some-sample g c =
     let h = c.in-Some-sample.ensures.answer in
     let l = showing t.n t.pace.to t.window in
     let o : length (showing s.n s.pace.to s.window) ≤ s.at = over (showing s.n s.pace.to s.window) s.at c.in_default.ensures.answer in
-    let k : 0 < length s.window.next = more s.window.next (sym c.if-not-is_last.ensures.answer) in
+    let k : 0 < length (framed s.window.next) = more (framed s.window.next) (sym c.if-not-is_last.ensures.answer) in
     let e : remaining of t ≡ remaining of s = b.after ∙ sym (past of s o k) in
     record {
       answer = first_front l (behind-shown of t) t.at x h ∙ ap first e;
@@ -93,7 +94,7 @@ returns-in-Some-sample g c =
 abbrev Over : {I : Type 0} → (I → List Float) → (I → Meaning) → Resampler I → Resampler I → Type 0
 Over of behind s r =
     (length (showing r.n r.pace.to r.window) ≤ r.at)
-    × (length r.window.next ≡ 0)
+    × (length (framed r.window.next) ≡ 0)
     × (remaining of s ≡ [])
     × (behind r.window.input ≡ behind s.window.input)
     × (r.pace ≡ s.pace)
@@ -107,31 +108,31 @@ returns g c =
     let h : length (showing s.n s.pace.to s.window) ≤ s.at = over (showing s.n s.pace.to s.window) s.at c.in_default.ensures.answer in
     let t = c.if-not-is_last.self in
     let u = c.exhaust.new.self in
-    let cur : u.current ≡ t.window.current = c.exhaust.ensures.frames.0 in
-    let nxt : u.next ≡ t.window.next = c.exhaust.ensures.frames.1 in
+    let cur : framed u.current ≡ framed t.window.current = ap framed c.exhaust.ensures.frames.0 in
+    let nxt : framed u.next ≡ framed t.window.next = ap framed c.exhaust.ensures.frames.1 in
     let o : Over of beyond s t =
     elim c.if-not-is_last.branch [
       | then-not-is_last+in_default-sample v ↦
           let b = v.begin.new.self in
           let l = showing b.n b.pace.to b.window in
-          let k : 0 < length s.window.next = more s.window.next (sym v.if-not-is_last.ensures.answer) in
+          let k : 0 < length (framed s.window.next) = more (framed s.window.next) (sym v.if-not-is_last.ensures.answer) in
           let e : remaining of b ≡ remaining of s = v.begin.ensures.after ∙ sym (past of s h k) in
           let y : length l ≤ b.at = over l b.at v.in_default-sample.ensures.answer in
           let z : length l ≡ 0 = omega (arith, v.begin.ensures.at) in
-          let x : length b.window.next ≡ 0 =
-          shown_none b.window.channels.count b.n b.pace.to b.window.current b.window.next b.window.lined z in
+          let x : length (framed b.window.next) ≡ 0 =
+          shown_none b.window.channels.count b.n b.pace.to (framed b.window.current) (framed b.window.next) b.window.lined z in
           subst (Over of beyond s) (sym v.self-is) (y, x, sym e ∙ ended of b y x, v.begin.ensures.same, v.begin.ensures.pace, v.begin.ensures.channels)
       | else-not-is_last v ↦
-          let x : length s.window.next ≡ 0 = eqb-true (length s.window.next) 0 (sym v.if-not-is_last.ensures.answer) in
+          let x : length (framed s.window.next) ≡ 0 = eqb-true (length (framed s.window.next)) 0 (sym v.if-not-is_last.ensures.answer) in
           subst (Over of beyond s) (sym v.self-is) (h, x, ended of s h x, refl, refl, refl)
     ] in
-    let y : length (shown t.n t.pace.to u.current u.next) ≤ t.at =
+    let y : length (shown t.n t.pace.to (framed u.current) (framed u.next)) ≤ t.at =
     omega (arith, o.0, ap₂ (λ a b. length (shown t.n t.pace.to a b)) cur nxt) in
-    let x : length u.next ≡ 0 = ap length nxt ∙ o.1 in
+    let x : length (framed u.next) ≡ 0 = ap length nxt ∙ o.1 in
     record {
       answer = sym (ap first o.2);
       after =
-          held_end t.n t.pace.from t.pace.to u.channels.count t.at u.current u.next (left of u) y x
+          held_end t.n t.pace.from t.pace.to u.channels.count t.at (framed u.current) (framed u.next) (left of u) y x
           ∙ sym (ap rest o.2);
       same = c.exhaust.ensures.same ∙ o.3;
       spent = λ p. c.exhaust.ensures.spent;

@@ -1,11 +1,11 @@
 -- Each turn takes one cell over and fills it with the next sample, if there is one.
-use Rattle.std.proofs.Common.{◌≡◌, suc, ◌+◌, ◌<◌, ◌≤◌, [], ◌∷◌, ◌++◌, length, get_or, take, drop, set, sym, ap, ◌∙◌, add-one, arith, length-set, length-take, take_all, take-suc-set}
+use Rattle.std.proofs.Common.{◌≡◌, suc, ◌+◌, ◌<◌, ◌≤◌, [], ◌∷◌, ◌++◌, length, get_or, take, drop, set, sym, ap, ◌∙◌, add-one, arith, length-set, length-take, take_all, take-suc-set, rules}
 use lib.Ieee.{nan}
-use Rattle.std.proofs.lemmas.List.{take-set-le}
 use Rattle.source.specs.Samples.{first, rest}
 use Rattle.source.proofs.Draws.{rest-drop}
+use Rattle.frames.specs.declared.frame.Frame.{Frame}
 use Rattle.frames.proofs.Heads.{Here, here, over}
-use Rattle.frames.proofs.Shifts.{taken_on, kept_past}
+use Rattle.frames.proofs.Shifts.{taken_on, kept_on, kept_past}
 use Rattle.frames.proofs.frame.Frame.shift.Goals as goal
 use Rattle.frames.proofs.frame.Frame.shift.Goals.{in-Some, in_default}
 
@@ -14,41 +14,58 @@ loop-i-preserved g c =
     let xs = g.I.Samples.samples c.args.input.now in
     let i = c.loop-i.i in
     let v = c.loop-i.invariant in
-    let a = c.loop-i.self-inside.samples in
-    let b = c.loop-i.cell-items in
-    let o = take c.next.inside.len c.next.inside.samples in
+    let a = c.loop-i.self.samples in
+    let b = c.loop-i.next.samples in
+    let o = c.args.next.now.samples in
     let y = get_or b i nan in
-    let there : i < length b = omega arith in
-    let room : i < length a = omega (arith, v.size, c.next.invariant, length-take c.next.inside.len c.next.inside.samples) in
-    let came = c.next-in-loop-i.ensures.answer ∙ ap first v.after in
-    let cells = c.match-next.cell-items in
+    let small : i < 8 = omega (arith, c.loop-i-test.true, c.args.next.now.within) in
+    let took = taken_on i a b o small v.0 v.1 v.3 nan v.2 in
+    let gone = c.next.ensures.after ∙ ap rest v.6 ∙ rest-drop i xs in
+    let came = c.next.ensures.answer ∙ ap first v.6 in
     elim c.match-next.branch [
       | in-Some w ↦
-          let x = w.in-Some.sample in
+          let x = w.in-Some.x in
           let h : Here xs i x = here xs i x (sym w.in-Some.is ∙ came) in
-          let r : c.loop-i.read ≡ i = omega (arith, v.counted, h.less) in
-          let front : take (suc i) (set b i x) ≡ take (suc i) xs =
-          take-suc-set b i x there ∙ ap (λ l. l ++ (x ∷ [])) (ap (λ n. take n b) (sym r) ∙ v.filled) ∙ sym h.front in
-          record {
-            size = length-set a i y ∙ v.size;
-            taken = taken_on i a b o room there v.kept nan v.taken;
-            kept = ap (drop (i + 1)) w.cell-items-is ∙ kept_past i a b o room there v.kept x;
-            counted = omega (arith, w.read-is, h.less);
-            filled = ap (λ l. take c.match-next.read l) w.cell-items-is ∙ ap (λ n. take n (set b i x)) w.read-is ∙ rw add-one front;
-            after = c.next-in-loop-i.ensures.after ∙ ap rest v.after ∙ rest-drop i xs;
-            same = c.next-in-loop-i.ensures.same ∙ v.same;
-          }
+          let cells : c.match-next.next.samples ≡ set b i x = ap (λ (f : Frame). f.samples) w.next-is in
+          let lt : i < length b = omega (arith, v.1) in
+          let r : c.loop-i.read ≡ i = omega (arith, v.4, h.less) in
+          let front : take (suc i) (set b i x) ≡ take (suc i) xs = take-suc-set b i x lt ∙ ap (λ l. l ++ (x ∷ [])) (ap (λ n. take n b) (sym r) ∙ v.5) ∙ sym h.front in (
+            length-set a i y ∙ v.0,
+            ap length cells ∙ length-set b i x ∙ v.1,
+            took,
+            ap (drop (i + 1)) cells ∙ kept_past i a b o small v.0 v.1 v.3 x,
+            omega (arith, w.read-is, h.less),
+            ap (λ l. take c.match-next.read l) cells ∙ ap (λ n. take n (set b i x)) w.read-is ∙ rw add-one front,
+            gone,
+            c.next.ensures.same ∙ v.7,
+          )
       | in_default w ↦
           let e : length xs ≤ i = over xs i (sym w.in_default.is ∙ came) in
-          record {
-            size = length-set a i y ∙ v.size;
-            taken = taken_on i a b o room there v.kept nan v.taken;
-            kept = ap (drop (i + 1)) w.cell-items-is ∙ kept_past i a b o room there v.kept y;
-            counted = omega (arith, w.read-is, v.counted);
-            filled =
-                ap (λ l. take c.match-next.read l) w.cell-items-is ∙ ap (λ n. take n (set b i y)) w.read-is
-                ∙ take-set-le c.loop-i.read b i y (omega (arith, v.counted)) ∙ v.filled ∙ take_all i xs e ∙ sym (take_all (i + 1) xs (omega arith));
-            after = c.next-in-loop-i.ensures.after ∙ ap rest v.after ∙ rest-drop i xs;
-            same = c.next-in-loop-i.ensures.same ∙ v.same;
-          }
+          let cells : c.match-next.next.samples ≡ b = ap (λ (f : Frame). f.samples) w.next-is in (
+            length-set a i y ∙ v.0,
+            ap length cells ∙ v.1,
+            took,
+            ap (drop (i + 1)) cells ∙ kept_on i a b o small v.0 v.1 v.3,
+            omega (arith, w.read-is, v.4),
+            ap (λ l. take c.match-next.read l) cells ∙ ap (λ n. take n b) w.read-is ∙ v.5 ∙ take_all i xs e ∙ sym (take_all (i + 1) xs (omega arith)),
+            gone,
+            c.next.ensures.same ∙ v.7,
+          )
     ]
+
+pub returns : goal.returns
+returns g c =
+    let xs = g.I.Samples.samples c.args.input.now in
+    let i = c.loop-i.i in
+    let v = c.loop-i.invariant in
+    let o = c.args.next.now.samples in
+    let n = c.args.next.now.len in
+    let all : i ≡ n = omega arith in
+    let size : length o ≡ 8 = search rules in
+    let long : n ≡ length (take n o) = sym (length-take n o ∙ omega (arith, size, c.args.next.now.within)) in
+    record {
+      taken = ap (λ k. take k c.loop-i.self.samples) (sym all) ∙ v.2 ∙ ap (λ k. take k o) all;
+      filled = v.5 ∙ ap (λ k. take k xs) (all ∙ long);
+      after = v.6 ∙ ap (λ k. drop k xs) (all ∙ long);
+      same = v.7;
+    }

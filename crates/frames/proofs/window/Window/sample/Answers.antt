@@ -1,6 +1,7 @@
 -- A place that both frames have is put together; past either there is none.
 use Rattle.std.proofs.Common.{◌≡◌, ℕ, ◌<◌, List, length, drop, Some, sym, ap, ◌∙◌, arith}
 use lib.Ieee.{Float}
+use Rattle.frames.specs.Frames.{framed}
 use Rattle.source.specs.Samples.{first}
 use Rattle.rates.specs.Rates.{lerp_by, both}
 use Rattle.rates.specs.Onward.{shown_by}
@@ -14,8 +15,8 @@ at_both n to cur nxt i h = ap (λ l. first (drop i l)) (sym (shown-both n to cur
 
 pub returns-in_err-first : goal.returns-in_err-first
 returns-in_err-first g c =
-    let cur = c.args.self.now.current in
-    let nxt = c.args.self.now.next in
+    let cur = framed c.args.self.now.current in
+    let nxt = framed c.args.self.now.next in
     let n = c.args.numerator in
     let to = c.args.denominator in
     let i = c.args.i in
@@ -25,8 +26,8 @@ returns-in_err-first g c =
 
 pub returns-in_err-second : goal.returns-in_err-second
 returns-in_err-second g c =
-    let cur = c.args.self.now.current in
-    let nxt = c.args.self.now.next in
+    let cur = framed c.args.self.now.current in
+    let nxt = framed c.args.self.now.next in
     let n = c.args.numerator in
     let to = c.args.denominator in
     let i = c.args.i in
@@ -36,8 +37,8 @@ returns-in_err-second g c =
 
 pub returns : goal.returns
 returns g c =
-    let cur = c.args.self.now.current in
-    let nxt = c.args.self.now.next in
+    let cur = framed c.args.self.now.current in
+    let nxt = framed c.args.self.now.next in
     let n = c.args.numerator in
     let to = c.args.denominator in
     let i = c.args.i in
