@@ -1,6 +1,5 @@
 // Lists of samples, read from a word and written as one.
 use crate::words;
-use crate::words::Joined;
 use cases::fault::Fault;
 use cases::fnv::Fnv;
 use cases::reading;
@@ -47,27 +46,18 @@ pub(crate) fn list(heap: Global, word: &str) -> Result<SampleList, Fault> {
     }
 }
 
-// The bits of a sample, printed in eight hexadecimal digits.
-#[derive(Clone, Copy)]
-pub(crate) struct Bits(u32);
-
-impl fmt::Display for Bits {
-    fn fmt<W: fmt::Write>(&self, f: &mut fmt::Formatter<W>) -> fmt::Result {
-        write!(f, "{:08x}", self.0)
-    }
-}
-
-// A list of samples as it is written.
+// A list of samples as it is written: the text so far, which is made as the samples come, since they need not be kept beside it, or
+// their count and hash.
 #[derive(Drop)]
 pub(crate) enum Listing {
-    Full(Vec<Bits>),
+    Full(String),
     Hashed { count: u64, fnv: Fnv },
 }
 
 impl Listing {
     pub(crate) fn new(heap: Global, form: Form) -> Listing {
         match form {
-            Form::Full => Listing::Full(Vec::new(heap)),
+            Form::Full => Listing::Full(String::new(heap)),
             Form::Hashed => Listing::Hashed {
                 count: 0,
                 fnv: Fnv::new(),
@@ -78,7 +68,12 @@ impl Listing {
     pub(crate) fn push(&mut self, sample: f32) -> Result<(), AllocError> {
         let bits = f32_to_bits_with_nan(sample);
         match self {
-            Listing::Full(all) => all.push(Bits(bits))?,
+            Listing::Full(text) => {
+                if !text.is_empty() {
+                    text.push(',')?;
+                }
+                write!(text, "{bits:08x}")?;
+            }
             Listing::Hashed { count, fnv } => {
                 fnv.add(bits);
                 *count = count.saturating_add(1);
@@ -97,8 +92,16 @@ impl Listing {
 
     pub(crate) fn is_empty(&self) -> bool {
         match self {
-            Listing::Full(all) => all.is_empty(),
+            Listing::Full(text) => text.is_empty(),
             Listing::Hashed { count, fnv: _ } => *count == 0,
+        }
+    }
+
+    // What is printed of it, as an answer of its own.
+    pub(crate) fn into_text(self, heap: Global) -> Result<String, AllocError> {
+        match self {
+            Listing::Full(text) if !text.is_empty() => Ok(text),
+            other => format!(in heap; "{other}"),
         }
     }
 }
@@ -107,7 +110,8 @@ impl Listing {
 impl fmt::Display for Listing {
     fn fmt<W: fmt::Write>(&self, f: &mut fmt::Formatter<W>) -> fmt::Result {
         match self {
-            Listing::Full(all) => write!(f, "{}", Joined::new(all, ',')),
+            Listing::Full(text) if text.is_empty() => f.write_str("-"),
+            Listing::Full(text) => f.write_str(text.as_str()),
             Listing::Hashed { count, fnv } => write!(f, "#{count}:{:016x}", fnv.hash()),
         }
     }

@@ -16,5 +16,5 @@ pub(crate) fn uniform_answer(heap: Global, fields: &[&str]) -> Result<String, Fa
     let stream = UniformSourceIterator::new(read.source, numbers.judged()?);
     let mut listing = Listing::new(heap, read.form);
     listing.write_all(&mut Flattened::new(stream))?;
-    Ok(format!(in heap; "{listing}")?)
+    Ok(listing.into_text(heap)?)
 }
