@@ -112,7 +112,7 @@ pub(crate) fn source(heap: Global, word: &str) -> Result<SourceRead, Fault> {
             }
         }
     }
-    let source = SpanList::new(known, open, rest, duration);
+    let source = SpanList::from_spans(known, open, rest, duration);
     Ok(SourceRead { source, form })
 }
 

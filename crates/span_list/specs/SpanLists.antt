@@ -17,8 +17,8 @@ spans_from pos [] (Some o) = open_from o.format (drop pos (vec_items o.samples))
 spans_from pos (k ∷ ks) o = known_from k.format (drop pos (vec_items k.samples)) (left_fits pos k) (spans_from 0 ks o)
 
 -- A source of known spans, an open one or none, what it rests at and a duration.
-abbrev pub list_of : List KnownSpan → Option OpenSpan → Rest → Option Duration → Meaning
-list_of ks o r d = record { spans = spans_from 0 ks o; rests_at = r.format; rests_known = r.known; duration = d }
+abbrev pub list_of_spans : List KnownSpan → Option OpenSpan → Rest → Option Duration → Meaning
+list_of_spans ks o r d = record { spans = spans_from 0 ks o; rests_at = r.format; rests_known = r.known; duration = d }
 
 -- Known spans, and then an open one told by its format and its samples: there is none where it has no samples.
 abbrev pub spans_of : List KnownSpan → Format → List Float → Spans
@@ -26,8 +26,8 @@ spans_of [] f ys = open_from f ys
 spans_of (k ∷ ks) f ys = known_from k.format (drop 0 (vec_items k.samples)) (left_fits 0 k) (spans_of ks f ys)
 
 -- A source of known spans, an open one so told, what it rests at, told by a format and a flag, and a duration.
-abbrev pub list_of_parts : List KnownSpan → Format → List Float → Format → Bool → Option Duration → Meaning
-list_of_parts ks f ys rests_at rests_known d = record { spans = spans_of ks f ys; rests_at = rests_at; rests_known = rests_known; duration = d }
+abbrev pub list_of : List KnownSpan → Format → List Float → Format → Bool → Option Duration → Meaning
+list_of ks f ys rests_at rests_known d = record { spans = spans_of ks f ys; rests_at = rests_at; rests_known = rests_known; duration = d }
 
 -- What is left of a list of spans.
 abbrev pub list_meaning : SpanList → Meaning

@@ -36,16 +36,35 @@ pub struct SpanList {
 }
 
 impl SpanList {
-    ghost use Rattle.span_list.specs.SpanLists.{list_meaning, list_of, list_of_parts};
+    ghost use Rattle.span_list.specs.SpanLists.{list_meaning, list_of, list_of_spans};
 
-    // Known spans in order, and then an open span if there is one.
+    // Known spans in order, and then an open one told by its format and its samples, of which there is none where it has no samples;
+    // what the source rests at is told by a format and a flag.
     pub fn new(
+        known: Vec<KnownSpan>,
+        open_format: Format,
+        open: Vec<f32>,
+        rests_at: Format,
+        rests_known: bool,
+        duration: Option<Duration>,
+    ) -> SpanList
+        ensures answer { list_meaning result ≡ list_of known.items open_format «open».items rests_at rests_known duration }
+    {
+        let rest = Rest {
+            format: rests_at,
+            known: rests_known,
+        };
+        SpanList::from_spans(known, OpenSpan::new(open_format, open), rest, duration)
+    }
+
+    // The same of spans that are made, and of what the source rests at.
+    pub fn from_spans(
         known: Vec<KnownSpan>,
         open: Option<OpenSpan>,
         rest: Rest,
         duration: Option<Duration>,
     ) -> SpanList
-        ensures answer { list_meaning result ≡ list_of known.items «open» rest duration }
+        ensures answer { list_meaning result ≡ list_of_spans known.items «open» rest duration }
     {
         SpanList {
             known: VecDeque::from(known),
@@ -54,25 +73,6 @@ impl SpanList {
             duration,
             pos: 0,
         }
-    }
-
-    // The same for an open span told by its format and its samples, of which there is none where it has no samples, and for what the
-    // source rests at told by a format and a flag.
-    pub fn from_parts(
-        known: Vec<KnownSpan>,
-        open_format: Format,
-        open: Vec<f32>,
-        rests_at: Format,
-        rests_known: bool,
-        duration: Option<Duration>,
-    ) -> SpanList
-        ensures answer { list_meaning result ≡ list_of_parts known.items open_format «open».items rests_at rests_known duration }
-    {
-        let rest = Rest {
-            format: rests_at,
-            known: rests_known,
-        };
-        SpanList::new(known, OpenSpan::new(open_format, open), rest, duration)
     }
 
     fn format(&self) -> Format
